@@ -145,7 +145,7 @@ ones-count (suc k) m h =
     let e : if (eqb (m % 2) 1) 1 0 ≡ m % 2 = one-bit (m % 2) (omega arith) in
     let ih : ones (m / 2) ≡ count (bit (m / 2)) k = ones-count k (m / 2) (omega arith) in
     let next : count (bit (m / 2)) k ≡ count (λ j. bit m (j + 1)) k =
-        count-same (bit (m / 2)) (λ j. bit m (j + 1)) k (λ j l. sym (ap (bit m) (add-one j) ∙ bit-next m j)) in
+    count-same (bit (m / 2)) (λ j. bit m (j + 1)) k (λ j l. sym (ap (bit m) (add-one j) ∙ bit-next m j)) in
     ones-step m
     ∙ ap (λ (x : ℕ). m % 2 + x) (ih ∙ next)
     ∙ ap (λ (x : ℕ). x + count (λ j. bit m (j + 1)) k) (sym e ∙ ap (λ (t : Bool). if t 1 0) (sym (bit-low m)))
