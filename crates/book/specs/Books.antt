@@ -1,0 +1,63 @@
+-- Document 01, 'The book': what it keeps, the committed state, the full pages, and what a cut drops. Assumes nothing.
+use Prim.Native.Nat.{ℕ, zero, suc, _+_, _-_}
+use mathlib.Core.Bool.{Bool, true, false, not, _&&_, _||_}
+use mathlib.Core.List.{List, [], _∷_}
+use lib.ListN.{length, drop}
+use lib.Dec.{eqb}
+use Rattle.words.specs.Tests.{if, any}
+use Rattle.records.specs.Records.{isSweep}
+use Rattle.book.specs.Lines.{Line, hasCommit, hasEnd, filtered, pagesAfter}
+
+-- where the book stands: a store that is open; a cut whose reopening is not accepted yet; a reopening with k pages stored
+pub data Stage : Type 0 where
+  opened : Stage
+  awaiting : Stage
+  storing : ℕ → Stage
+
+pub record Book : Type 0 where
+  -- newest first; the oldest `stable` of them are stable
+  pub lines : List Line
+  pub stable : ℕ
+  -- how many begin lines there were, and by transaction the own transaction that runs, 0 where none does
+  pub begun : ℕ
+  pub running : ℕ → ℕ
+  -- by transaction, the objects that it knows
+  pub known : ℕ → ℕ → Bool
+  pub stage : Stage
+
+-- 'It starts from the formatted pages'
+abbrev pub blank : Book
+blank = record { lines = []; stable = 0; begun = 0; running = λ t. 0; known = λ t o. false; stage = opened }
+
+-- own transaction i runs
+unfoldable pub runs : Book → ℕ → Bool
+runs b i = not (eqb i 0) && any (λ t. eqb (b .running t) i) 16
+
+-- 'the sweeps and the lines left of transactions with kind 4, stable or not'
+abbrev pub countsCommitted : Book → Line → Bool
+countsCommitted b l = isSweep (l .entry) || (not (l .struck) && hasCommit (l .owner) (b .lines))
+
+-- 'the full pages count running ones' lines too'
+abbrev pub countsFull : Book → Line → Bool
+countsFull b l = countsCommitted b l || (not (l .struck) && runs b (l .owner))
+
+unfoldable pub committedLines : Book → List Line
+committedLines b = filtered (countsCommitted b) (b .lines)
+
+unfoldable pub fullLines : Book → List Line
+fullLines b = filtered (countsFull b) (b .lines)
+
+-- 'The committed state' and 'the full pages' of a store of n pages
+abbrev pub committedPages : ℕ → Book → List ℕ
+committedPages n b = pagesAfter n (committedLines b)
+
+abbrev pub fullPages : ℕ → Book → List ℕ
+fullPages n b = pagesAfter n (fullLines b)
+
+-- 'drops the lines not stable, then all lines of each transaction without kind 4 or 5'
+unfoldable pub surviving : Book → List Line
+surviving b = let kept = drop (length (b .lines) - b .stable) (b .lines) in filtered (λ l. isSweep (l .entry) || hasEnd (l .owner) kept) kept
+
+-- 'A cut or accepted reopen stops all transactions and drops the lines ..'
+abbrev pub stopped : Stage → Book → Book
+stopped g b = record { lines = surviving b; stable = length (surviving b); begun = b .begun; running = λ t. 0; known = λ t o. false; stage = g }

@@ -1,0 +1,46 @@
+-- Document 01, 'The book': what a state reaches, and when a pointer leads to its record. Assumes nothing.
+use Prim.Native.Nat.{ℕ, _<_}
+use mathlib.Core.Path.{_≡_}
+use mathlib.Core.Bool.{Bool, true, false, not, _&&_, _||_}
+use mathlib.Core.List.{List, [], _∷_}
+use lib.Dec.{eqb}
+use Rattle.words.specs.Tests.{if}
+use Rattle.words.specs.Bits.{bit}
+use Rattle.pages.specs.Geometry.{pageOf, slotOf, isRef}
+use Rattle.pages.specs.Objects.{occupied, wordOf}
+use Rattle.records.specs.declared.Record.{Record}
+use Rattle.book.specs.Lines.{Line}
+
+-- word f of object o is a reference to x in page area a
+pub record Refers (a : List ℕ) (o f x : ℕ) : Type 0 where
+  pub word : f < 8
+  pub reference : isRef a o f ≡ true
+  pub target : wordOf a o f ≡ x
+  pub some : x ≡ 0 → ⊥
+
+-- 'A state reaches the root and what a reached object's references name.'
+pub data Reached (a : List ℕ) : ℕ → Type 0 where
+  root : Reached a 1
+  next : {o x : ℕ} (f : ℕ) → Reached a o → Refers a o f x → Reached a x
+
+-- a sweep's record frees object o
+abbrev pub sweeps : Record → ℕ → Bool
+sweeps r o = eqb (r .kind) 7 && eqb (r .object) (pageOf o) && bit (r .new) (slotOf o)
+
+-- the record creates or frees object o
+abbrev pub makesOrFrees : Record → ℕ → Bool
+makesOrFrees r o = ((eqb (r .kind) 2 || eqb (r .kind) 6) && eqb (r .object) o) || sweeps r o
+
+-- the record writes word f of object o: by a set, or with the whole object
+abbrev pub writes : Record → ℕ → ℕ → Bool
+writes r o f = (eqb (r .kind) 3 && eqb (r .object) o && eqb (r .field) f) || makesOrFrees r o
+
+-- 'no line counted since its word was last written creates or frees the target': of the lines counted, newest first
+unfoldable pub unbroken : List Line → ℕ → ℕ → ℕ → Bool
+unbroken [] o f x = true
+unbroken (l ∷ ls) o f x = let on = unbroken ls o f x in if (writes (l .entry) o f) true (if (makesOrFrees (l .entry) x) false on)
+
+-- 'a pointer in it leads to its record if, in that same state, its target is occupied and no line counted since ..': state a of the lines
+pub record Leads (a : List ℕ) (lines : List Line) : Type 0 where
+  pub there : (o f x : ℕ) → Reached a o → Refers a o f x → occupied a x ≡ true
+  pub unbrokenly : (o f x : ℕ) → Reached a o → Refers a o f x → unbroken lines o f x ≡ true
