@@ -1,0 +1,1 @@
+// The bench program's meaning is a definition alone.

@@ -1,0 +1,1 @@
+// The table of examples is a statement about definitions alone.
