@@ -1,0 +1,21 @@
+-- The proofs that belong to no one function.
+pub mod Objects
+pub mod Count
+pub mod Safe
+pub mod Invariant
+pub mod Tables
+pub mod Facts
+pub mod Known
+pub mod Locking
+pub mod Create
+pub mod Write
+pub mod Ended
+pub mod Abort
+pub mod Reached
+pub mod Commit
+pub mod Mark
+pub mod Sweep
+pub mod Rest
+pub mod Steps
+pub mod Safety
+pub mod Trial

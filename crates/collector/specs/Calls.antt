@@ -1,0 +1,257 @@
+-- The calls of the collector's machine: the state after each where it is accepted, and the guards. Line numbers are given to the
+-- states, so that a user who counts the book's lines says which they are. This machine serves the proof of demand 3; the claim of
+-- demand 3 itself never mentions it. Assumes nothing.
+use Prim.Native.Nat.{ℕ, suc, _+_, _*_}
+use mathlib.Core.Bool.{Bool, true, false, not, cond}
+use mathlib.Core.List.{List, [], _∷_}
+use lib.Dec.{eqb, leb, ltb}
+use Rattle.collector.specs.Bits.{_and_, _or_, anyb, allb, first}
+use Rattle.collector.specs.Objects.{Obj, Tag, blank, fresh, put, bornAt, stamp, fields, isRef, points, txns, pageOf}
+use Rattle.collector.specs.State.{white, black, isWhite, isGrey, greyed, Phase, idle, marking, sweeping, isIdle, isMarking}
+use Rattle.collector.specs.State.{Tags, Locks, Tables, Pass, St, objects, add, remove, drop, some, carried, mix, holds, atRest}
+
+abbrev pub knowing : Tables → (ℕ → ℕ → Bool) → Tables
+knowing b kn = record { kn = kn; prt = b .prt; cot = b .cot; cotF = b .cotF; dirty = b .dirty }
+
+-- t knows the root only; the book has lines up to n
+abbrev pub begun : St → ℕ → ℕ → St
+begun s t n = record {
+  count = s .count;
+  pages = s .pages;
+  tags = record { cmtTag = s .tags .cmtTag; recTag = s .tags .recTag; now = n };
+  locks = record { act = λ u. s .locks .act u or eqb u t; rd = s .locks .rd; wr = s .locks .wr };
+  tables = knowing (s .tables) (λ u x. cond (eqb u t) (eqb x 1) (s .tables .kn u x));
+  pass = s .pass;
+}
+
+abbrev pub locked : St → (ℕ → ℕ → Bool) → (ℕ → ℕ → Bool) → St
+locked s rd wr = record {
+  count = s .count;
+  pages = s .pages;
+  tags = s .tags;
+  locks = record { act = s .locks .act; rd = rd; wr = wr };
+  tables = s .tables;
+  pass = s .pass;
+}
+
+-- the writer stays the writer
+abbrev pub readLocked : St → ℕ → ℕ → St
+readLocked s t p = locked s (λ u q. s .locks .rd u q or (eqb u t and eqb q p and not (s .locks .wr u q))) (s .locks .wr)
+
+-- a reader that becomes the writer is no reader any more
+abbrev pub writeLocked : St → ℕ → ℕ → St
+writeLocked s t p = locked s (remove (s .locks .rd) t p) (add (s .locks .wr) t p)
+
+-- t knows the references that it read
+abbrev pub readBy : St → ℕ → ℕ → St
+readBy s t o = record {
+  count = s .count;
+  pages = s .pages;
+  tags = s .tags;
+  locks = s .locks;
+  tables = knowing (s .tables) (λ u x. s .tables .kn u x or (eqb u t and points (s .pages .rec o) x));
+  pass = s .pass;
+}
+
+-- line m creates o
+abbrev pub created : St → ℕ → ℕ → ℕ → St
+created s t o m = record {
+  count = s .count;
+  pages = record { cmt = s .pages .cmt; rec = λ x. cond (eqb x o) fresh (s .pages .rec x); cop = s .pages .cop };
+  tags = record { cmtTag = s .tags .cmtTag; recTag = λ x. cond (eqb x o) (bornAt m) (s .tags .recTag x); now = suc m };
+  locks = s .locks;
+  tables = record { kn = add (s .tables .kn) t o; prt = s .tables .prt; cot = add (s .tables .cot) t o; cotF = s .tables .cotF; dirty = add (s .tables .dirty) t (pageOf o) };
+  pass = s .pass;
+}
+
+-- x is the reference that a write of v to word f of the object takes away
+abbrev pub pruned : Obj → ℕ → ℕ → ℕ → Bool
+pruned b f v x = isRef b f and not (eqb x 0) and not (eqb x v) and eqb (b .word f) x
+
+-- line m writes v to word f of o; the reference taken away enters the PRT, and turns grey while marking
+abbrev pub written : St → ℕ → ℕ → ℕ → ℕ → ℕ → St
+written s t o f v m = record {
+  count = s .count;
+  pages = record { cmt = s .pages .cmt; rec = λ x. cond (eqb x o) (put (s .pages .rec o) f v) (s .pages .rec x); cop = s .pages .cop };
+  tags = record { cmtTag = s .tags .cmtTag; recTag = λ x. cond (eqb x o) (stamp (s .tags .recTag o) f m) (s .tags .recTag x); now = suc m };
+  locks = s .locks;
+  tables = record {
+    kn = s .tables .kn;
+    prt = λ u x. s .tables .prt u x or (eqb u t and pruned (s .pages .rec o) f v x);
+    cot = s .tables .cot;
+    cotF = s .tables .cotF;
+    dirty = add (s .tables .dirty) t (pageOf o);
+  };
+  pass = record {
+    phase = s .pass .phase;
+    at = s .pass .at;
+    steps = s .pass .steps;
+    col = λ x. greyed (isMarking (s .pass .phase) and pruned (s .pages .rec o) f v x) (s .pass .col x);
+  };
+}
+
+-- the copy of page p becomes the received page
+abbrev pub flushed : St → ℕ → ℕ → St
+flushed s t p = record {
+  count = s .count;
+  pages = record { cmt = s .pages .cmt; rec = s .pages .rec; cop = mix (λ o. eqb (pageOf o) p) (s .pages .rec) (s .pages .cop) };
+  tags = s .tags;
+  locks = s .locks;
+  tables = record { kn = s .tables .kn; prt = s .tables .prt; cot = s .tables .cot; cotF = s .tables .cotF; dirty = remove (s .tables .dirty) t p };
+  pass = s .pass;
+}
+
+-- t writes the page of o
+abbrev pub owns : St → ℕ → ℕ → Bool
+owns s t o = s .locks .wr t (pageOf o)
+
+-- what the end of t leaves of locks and tables; COT entries are flagged while a pass runs
+abbrev pub unlocked : Locks → ℕ → Locks
+unlocked l t = record { act = λ u. not (eqb u t) and l .act u; rd = drop (l .rd) t; wr = drop (l .wr) t }
+
+abbrev pub without : Tables → Phase → ℕ → Tables
+without b ph t = record {
+  kn = drop (b .kn) t;
+  prt = drop (b .prt) t;
+  cot = drop (b .cot) t;
+  cotF = λ x. b .cotF x or (not (isIdle ph) and b .cot t x);
+  dirty = drop (b .dirty) t;
+}
+
+-- t's pages are committed as received; the book has lines up to n
+abbrev pub committed : St → ℕ → ℕ → St
+committed s t n = record {
+  count = s .count;
+  pages = record { cmt = mix (owns s t) (s .pages .rec) (s .pages .cmt); rec = s .pages .rec; cop = s .pages .cop };
+  tags = record { cmtTag = mix (owns s t) (s .tags .recTag) (s .tags .cmtTag); recTag = s .tags .recTag; now = n };
+  locks = unlocked (s .locks) t;
+  tables = without (s .tables) (s .pass .phase) t;
+  pass = s .pass;
+}
+
+-- t's pages are received and copied as committed; the book has lines up to n, and the undoing is no longer counted
+abbrev pub aborted : St → ℕ → ℕ → St
+aborted s t n = record {
+  count = s .count;
+  pages = record { cmt = s .pages .cmt; rec = mix (owns s t) (s .pages .cmt) (s .pages .rec); cop = mix (owns s t) (s .pages .cmt) (s .pages .cop) };
+  tags = record { cmtTag = s .tags .cmtTag; recTag = mix (owns s t) (s .tags .cmtTag) (s .tags .recTag); now = n };
+  locks = unlocked (s .locks) t;
+  tables = without (s .tables) (s .pass .phase) t;
+  pass = s .pass;
+}
+
+-- flagged entries go; the root and every PRT target turn grey
+abbrev pub started : St → St
+started s = record {
+  count = s .count;
+  pages = s .pages;
+  tags = s .tags;
+  locks = s .locks;
+  tables = record { kn = s .tables .kn; prt = s .tables .prt; cot = s .tables .cot; cotF = λ x. false; dirty = s .tables .dirty };
+  pass = record { phase = marking; at = 0; steps = 0; col = λ x. greyed (eqb x 1 or some (s .tables .prt) x) white };
+}
+
+abbrev pub passing : St → Pass → St
+passing s a = record { count = s .count; pages = s .pages; tags = s .tags; locks = s .locks; tables = s .tables; pass = a }
+
+-- the grey object o is scanned in the copies and turns black
+abbrev pub marked : St → ℕ → St
+marked s o = passing s (record {
+  phase = marking;
+  at = s .pass .at;
+  steps = suc (s .pass .steps);
+  col = λ x. cond (eqb x o) black (greyed (points (s .pages .cop o) x) (s .pass .col x));
+})
+
+-- no object is grey: the next step sweeps page 0
+abbrev pub turned : St → St
+turned s = passing s (record { phase = sweeping; at = 0; steps = suc (s .pass .steps); col = s .pass .col })
+
+-- the pass after the sweep of a page: after the last page it is over
+abbrev pub onward : ℕ → Pass → Pass
+onward p a = let more : Bool = ltb (suc (a .at)) p in
+    record { phase = cond more sweeping idle; at = cond more (suc (a .at)) 0; steps = cond more (suc (a .steps)) 0; col = a .col }
+
+abbrev pub advanced : St → St
+advanced s = passing s (onward (s .count) (s .pass))
+
+-- the objects that a sweep of the page frees
+abbrev pub dead : St → ℕ → Bool
+dead s x = eqb (pageOf x) (s .pass .at) and s .pages .cop x .occ and isWhite (s .pass .col x) and not (carried (s .tables .cot) (s .tables .cotF) x)
+
+-- line m frees them in all areas
+abbrev pub swept : St → ℕ → St
+swept s m = record {
+  count = s .count;
+  pages = record { cmt = mix (dead s) (λ o. blank) (s .pages .cmt); rec = mix (dead s) (λ o. blank) (s .pages .rec); cop = mix (dead s) (λ o. blank) (s .pages .cop) };
+  tags = record { cmtTag = mix (dead s) (λ o. bornAt m) (s .tags .cmtTag); recTag = mix (dead s) (λ o. bornAt m) (s .tags .recTag); now = suc m };
+  locks = s .locks;
+  tables = s .tables;
+  pass = onward (s .count) (s .pass);
+}
+
+-- a reopening: objects m with tags a in all areas, lines up to n, and nobody at work
+abbrev pub reset : St → (ℕ → Obj) → (ℕ → Tag) → ℕ → St
+reset s m a n = atRest (s .count) m a n
+
+abbrev pub lowestGrey : St → ℕ
+lowestGrey s = first (objects s) 1 (λ o. isGrey (s .pass .col o))
+
+-- the page to sweep has a lock
+abbrev pub skipped : St → Bool
+skipped s = anyb txns (λ t. holds (s .locks .wr) (s .locks .rd) t (s .pass .at))
+
+-- it has something to free
+abbrev pub frees : St → Bool
+frees s = anyb 16 (λ k. dead s (suc (16 * s .pass .at + k)))
+
+abbrev pub stepped : Phase → St → St
+stepped idle s = s
+stepped marking s = cond (isGrey (s .pass .col (lowestGrey s))) (marked s (lowestGrey s)) (turned s)
+stepped sweeping s = cond (skipped s or not (frees s)) (advanced s) (swept s (s .tags .now))
+
+pub data Call : Type 0 where
+  begin commit : ℕ → Call
+  -- with the number of lines that the undoing adds
+  abort : ℕ → ℕ → Call
+  lockr lockw read create flush : ℕ → ℕ → Call
+  set : ℕ → ℕ → ℕ → ℕ → Call
+  pass step : Call
+  reopen : (ℕ → Obj) → (ℕ → Tag) → ℕ → Call
+
+unfoldable pub allowed : St → Call → Bool
+allowed s (begin t) = ltb t txns and not (s .locks .act t)
+allowed s (commit t) = s .locks .act t and allb (s .count) (λ p. not (s .tables .dirty t p))
+allowed s (abort t k) = s .locks .act t
+allowed s (lockr t p) = s .locks .act t and ltb p (s .count) and allb txns (λ u. eqb u t or not (s .locks .wr u p))
+allowed s (lockw t p) = s .locks .act t and ltb p (s .count) and allb txns (λ u. eqb u t or not (holds (s .locks .wr) (s .locks .rd) u p))
+allowed s (read t o) = s .locks .act t and holds (s .locks .wr) (s .locks .rd) t (pageOf o) and s .tables .kn t o
+allowed s (create t o) = s .locks .act t and leb 1 o and leb o (objects s) and owns s t o and not (s .pages .rec o .occ)
+allowed s (set t o f v) = s .locks .act t and ltb f fields and owns s t o and s .tables .kn t o and (not (isRef (s .pages .rec o) f) or eqb v 0 or s .tables .kn t v)
+allowed s (flush t p) = s .locks .act t and s .locks .wr t p
+allowed s pass = isIdle (s .pass .phase)
+allowed s step = not (isIdle (s .pass .phase))
+allowed s (reopen m a n) = true
+
+abbrev pub after : St → Call → St
+after s (begin t) = begun s t (suc (s .tags .now))
+after s (commit t) = committed s t (suc (s .tags .now))
+after s (abort t k) = aborted s t (s .tags .now + k)
+after s (lockr t p) = readLocked s t p
+after s (lockw t p) = writeLocked s t p
+after s (read t o) = readBy s t o
+after s (create t o) = created s t o (s .tags .now)
+after s (set t o f v) = written s t o f v (s .tags .now)
+after s (flush t p) = flushed s t p
+after s pass = started s
+after s step = stepped (s .pass .phase) s
+after s (reopen m a n) = reset s m a n
+
+-- a refused call changes nothing
+unfoldable pub perform : St → Call → St
+unfolding allowed
+perform s c = cond (allowed s c) (after s c) s
+
+unfoldable pub run : St → List Call → St
+run s [] = s
+run s (c ∷ cs) = run (perform s c) cs

@@ -1,0 +1,3 @@
+pub fn transactions() -> u32 {
+    16
+}

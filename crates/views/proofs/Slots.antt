@@ -1,0 +1,165 @@
+-- Slots after one of them is taken, freed or written, and after a map of them is freed. n is the number of pages. Assumes nothing.
+use Prim.Native.Nat.{ℕ, zero, suc, _+_, _*_, _-_, _/_, _%_, _≤_, _<_}
+use native.Mathlib.Omega.{arith}
+use native.Mathlib.Decide.{ℕ-discrete}
+use mathlib.Core.Path.{_≡_, refl, sym, ap, _∙_}
+use mathlib.Core.Bool.{Bool, true, false, not, _&&_, _||_}
+use mathlib.Core.List.{List}
+use lib.ListN.{length, getD, set, length-set}
+use lib.Seq.{getD-set-same, getD-set-other}
+use lib.Dec.{eqb, ltb}
+use borrow.Author.Tests.{eqb-true, eqb-false, eq-eqb, ne-eqb, lt-ltb, le-ltb, ltb-true, ltb-false}
+use Rattle.words.specs.Tests.{if, by-bool, clash, and-true, and-false, or-true, or-false, and-split}
+use Rattle.words.specs.Bits.{bit, withBit, withoutBit, bit-with, bit-without, bit-none}
+use Rattle.words.specs.Spans.{fill, length-fill, fill-outside, fill-inside}
+use Rattle.pages.specs.Geometry.{pageAt, slotAt, pageOf, slotOf}
+use Rattle.pages.specs.Objects.{mapAt, taken, slotWord, cleared, takenSlot, freedSlot, releasedIn}
+use Rattle.views.proofs.Places.{same-place, no-map, map-inside, slot-inside}
+
+-- slot r of page q is slot s of page p
+abbrev pub here : ℕ → ℕ → ℕ → ℕ → Bool
+here p s q r = eqb q p && eqb r s
+
+pub length-cleared : (a : List ℕ) (p s : ℕ) → length (cleared a p s) ≡ length a
+unfolding cleared
+length-cleared a p s = length-fill (λ f. 0) a (slotAt p s 0) 8
+
+module _ (n : ℕ) (a : List ℕ) (len : length a ≡ 129 * n) (p s : ℕ) (hp : p < n) (hs : s < 16) where
+  cleared-map : (q : ℕ) → mapAt (cleared a p s) q ≡ mapAt a q
+  unfolding cleared
+  cleared-map q = fill-outside (λ f. 0) a (slotAt p s 0) 8 (pageAt q) 0 (λ k l e. no-map p q s k hs l (omega arith))
+
+  cleared-word : (q r f : ℕ) → r < 16 → f < 8 → slotWord (cleared a p s) q r f ≡ if (here p s q r) 0 (slotWord a q r f)
+  unfolding cleared
+  cleared-word q r f hr hf = by-bool (eqb q p)
+      (λ e. rw e (by-bool (eqb r s)
+      (λ d. rw (d, eqb-true q p e, eqb-true r s d) (at-slot f hf))
+      (λ d. rw d (apart q r f hr hf (λ z. eqb-false r s d (z .1))))))
+      (λ e. rw e (apart q r f hr hf (λ z. eqb-false q p e (z .0))))
+    where
+      at-slot : (f : ℕ) → f < 8 → slotWord (fill (λ k. 0) a (slotAt p s 0) 8) p s f ≡ 0
+      at-slot f hf = let e : slotAt p s f ≡ slotAt p s 0 + f = omega arith in
+          rw e (fill-inside (λ k. 0) a (slotAt p s 0) 8 f (let i = slot-inside n p s 7 hp hs (omega arith) in omega arith) hf)
+
+      apart : (q r f : ℕ) → r < 16 → f < 8 → ((q ≡ p) × (r ≡ s) → ⊥) → slotWord (fill (λ k. 0) a (slotAt p s 0) 8) q r f ≡ slotWord a q r f
+      apart q r f hr hf n = fill-outside (λ k. 0) a (slotAt p s 0) 8 (slotAt q r f) 0
+          (λ k l e. let z = same-place q p r s f k hr hs hf l (omega arith) in n (z .0, z .1))
+
+-- a map with another word, and the slot cleared: what takenSlot and freedSlot do
+module _ (n : ℕ) (a : List ℕ) (len : length a ≡ 129 * n) (p s v : ℕ) (hp : p < n) (hs : s < 16) where
+  remade : List ℕ
+  remade = cleared (set a (pageAt p) v) p s
+
+  length-remade : length remade ≡ length a
+  unfolding remade
+  length-remade = length-cleared (set a (pageAt p) v) p s ∙ length-set a (pageAt p) v
+
+  inner : length (set a (pageAt p) v) ≡ 129 * n
+  inner = length-set a (pageAt p) v ∙ len
+
+  remade-map : (q : ℕ) → mapAt remade q ≡ if (eqb q p) v (mapAt a q)
+  unfolding remade
+  remade-map q = cleared-map n (set a (pageAt p) v) inner p s hp hs q ∙ by-bool (eqb q p)
+      (λ e. rw (e, eqb-true q p e) (getD-set-same a (pageAt p) v 0 (rw len (map-inside n p hp))))
+      (λ e. rw e (getD-set-other a (pageAt p) (pageAt q) v 0 (λ z. eqb-false q p e (omega arith))))
+
+  remade-word : (q r f : ℕ) → r < 16 → f < 8 → slotWord remade q r f ≡ if (here p s q r) 0 (slotWord a q r f)
+  unfolding remade
+  remade-word q r f hr hf = cleared-word n (set a (pageAt p) v) inner p s hp hs q r f hr hf
+      ∙ ap (λ (x : ℕ). if (here p s q r) 0 x) (getD-set-other a (pageAt p) (slotAt q r f) v 0 (λ z. no-map q p r f hr hf z))
+
+module _ (n : ℕ) (a : List ℕ) (len : length a ≡ 129 * n) (p s : ℕ) (hp : p < n) (hs : s < 16) where
+  pub length-taken : length (takenSlot a p s) ≡ length a
+  unfolding takenSlot remade
+  length-taken = length-remade n a len p s (withBit (mapAt a p) s) hp hs
+
+  pub length-freed : length (freedSlot a p s) ≡ length a
+  unfolding freedSlot remade
+  length-freed = length-remade n a len p s (withoutBit (mapAt a p) s) hp hs
+
+  pub taken-occ : (q r : ℕ) → taken (takenSlot a p s) q r ≡ (taken a q r || here p s q r)
+  unfolding takenSlot remade
+  taken-occ q r = ap (λ (m : ℕ). bit m r) (remade-map n a len p s (withBit (mapAt a p) s) hp hs q) ∙ by-bool (eqb q p)
+      (λ e. rw (e, eqb-true q p e) (bit-with (mapAt a p) s r))
+      (λ e. rw e (sym (or-false (bit (mapAt a q) r))))
+
+  pub freed-occ : (q r : ℕ) → taken (freedSlot a p s) q r ≡ (taken a q r && not (here p s q r))
+  unfolding freedSlot remade
+  freed-occ q r = ap (λ (m : ℕ). bit m r) (remade-map n a len p s (withoutBit (mapAt a p) s) hp hs q) ∙ by-bool (eqb q p)
+      (λ e. rw (e, eqb-true q p e) (bit-without (mapAt a p) s r))
+      (λ e. rw e (sym (and-true (bit (mapAt a q) r))))
+
+  pub taken-word : (q r f : ℕ) → r < 16 → f < 8 → slotWord (takenSlot a p s) q r f ≡ if (here p s q r) 0 (slotWord a q r f)
+  unfolding takenSlot remade
+  taken-word q r f hr hf = remade-word n a len p s (withBit (mapAt a p) s) hp hs q r f hr hf
+
+  pub freed-word : (q r f : ℕ) → r < 16 → f < 8 → slotWord (freedSlot a p s) q r f ≡ if (here p s q r) 0 (slotWord a q r f)
+  unfolding freedSlot remade
+  freed-word q r f hr hf = remade-word n a len p s (withoutBit (mapAt a p) s) hp hs q r f hr hf
+
+-- slot r of page q is one of the first k slots of page p that the map m has
+abbrev pub within : ℕ → ℕ → ℕ → ℕ → ℕ → Bool
+within p m k q r = eqb q p && ltb r k && bit m r
+
+within-next : (p m k q r : ℕ) → within p m (suc k) q r ≡ (within p m k q r || (here p k q r && bit m k))
+within-next p m k q r = by-bool (eqb q p)
+    (λ e. rw e (by-bool (eqb r k)
+    (λ d. let z = eqb-true r k d in rw (d, z, lt-ltb k (suc k) (omega arith), le-ltb k k (omega arith)) refl)
+    (λ d. let z = eqb-false r k d in by-bool (ltb r k)
+    (λ l. rw (d, l, lt-ltb r (suc k) (let y = ltb-true r k l in omega arith)) (sym (or-false (bit m r))))
+    (λ l. rw (d, l, le-ltb r (suc k) (let y = ltb-false r k l in omega arith)) refl))))
+    (λ e. rw e refl)
+
+module _ (n : ℕ) (a : List ℕ) (len : length a ≡ 129 * n) (p m : ℕ) (hp : p < n) where
+  pub length-released : (k : ℕ) → k ≤ 16 → length (releasedIn a p m k) ≡ length a
+  unfolding releasedIn
+  length-released zero l = refl
+  length-released (suc k) l = by-bool (bit m k)
+      (λ e. rw e (length-freed n (releasedIn a p m k) (length-released k (omega arith) ∙ len) p k hp (omega arith) ∙ length-released k (omega arith)))
+      (λ e. rw e (length-released k (omega arith)))
+
+  pub released-occ : (k : ℕ) → k ≤ 16 → (q r : ℕ) → taken (releasedIn a p m k) q r ≡ (taken a q r && not (within p m k q r))
+  unfolding releasedIn
+  released-occ zero l q r = by-bool (eqb q p) (λ e. rw (e, le-ltb r 0 (omega arith)) (sym (and-true (taken a q r)))) (λ e. rw e (sym (and-true (taken a q r))))
+  released-occ (suc k) l q r = by-bool (bit m k)
+      (λ e. rw (e, within-next p m k q r, e, and-true (here p k q r))
+      (freed-occ n (releasedIn a p m k) (length-released k (omega arith) ∙ len) p k hp (omega arith) q r
+      ∙ ap (λ (b : Bool). b && not (here p k q r)) (released-occ k (omega arith) q r) ∙ both (taken a q r) (within p m k q r) (here p k q r)))
+      (λ e. rw (e, within-next p m k q r, e, and-false (here p k q r), or-false (within p m k q r)) (released-occ k (omega arith) q r))
+    where
+      both : (x y z : Bool) → (x && not y) && not z ≡ x && not (y || z)
+      both true true z = refl
+      both true false z = refl
+      both false y z = refl
+
+  pub released-word : (k : ℕ) → k ≤ 16 → (q r f : ℕ) → r < 16 → f < 8 → slotWord (releasedIn a p m k) q r f ≡ if (within p m k q r) 0 (slotWord a q r f)
+  unfolding releasedIn
+  released-word zero l q r f hr hf = by-bool (eqb q p) (λ e. rw (e, le-ltb r 0 (omega arith)) refl) (λ e. rw e refl)
+  released-word (suc k) l q r f hr hf = by-bool (bit m k)
+      (λ e. rw (e, within-next p m k q r, e, and-true (here p k q r))
+      (freed-word n (releasedIn a p m k) (length-released k (omega arith) ∙ len) p k hp (omega arith) q r f hr hf
+      ∙ ap (λ (v : ℕ). if (here p k q r) 0 v) (released-word k (omega arith) q r f hr hf) ∙ either (within p m k q r) (here p k q r) (slotWord a q r f)))
+      (λ e. rw (e, within-next p m k q r, e, and-false (here p k q r), or-false (within p m k q r)) (released-word k (omega arith) q r f hr hf))
+    where
+      either : (y z : Bool) (v : ℕ) → if z 0 (if y 0 v) ≡ if (y || z) 0 v
+      either true true v = refl
+      either true false v = refl
+      either false true v = refl
+      either false false v = refl
+
+-- one word written
+module _ (n : ℕ) (a : List ℕ) (len : length a ≡ 129 * n) (p s f v : ℕ) (hp : p < n) (hs : s < 16) (hf : f < 8) where
+  pub put-map : (q : ℕ) → mapAt (set a (slotAt p s f) v) q ≡ mapAt a q
+  put-map q = getD-set-other a (slotAt p s f) (pageAt q) v 0 (λ z. no-map p q s f hs hf (sym z))
+
+  pub put-word : (q r g : ℕ) → r < 16 → g < 8 → slotWord (set a (slotAt p s f) v) q r g ≡ if (here p s q r && eqb g f) v (slotWord a q r g)
+  put-word q r g hr hg = by-bool (eqb q p)
+      (λ e. by-bool (eqb r s)
+      (λ d. by-bool (eqb g f)
+      (λ c. rw (e, d, c, eqb-true q p e, eqb-true r s d, eqb-true g f c) (getD-set-same a (slotAt p s f) v 0 (rw len (slot-inside n p s f hp hs hf))))
+      (λ c. rw (e, d, c) (apart (λ z. eqb-false g f c (z .2)))))
+      (λ d. rw (e, d) (apart (λ z. eqb-false r s d (z .1)))))
+      (λ e. rw e (apart (λ z. eqb-false q p e (z .0))))
+    where
+      apart : ((q ≡ p) × (r ≡ s) × (g ≡ f) → ⊥) → slotWord (set a (slotAt p s f) v) q r g ≡ slotWord a q r g
+      apart k = getD-set-other a (slotAt p s f) (slotAt q r g) v 0 (λ z. k (same-place q p r s g f hr hs hg hf z))

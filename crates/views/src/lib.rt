@@ -1,0 +1,1 @@
+// The laws that read page areas as objects.
