@@ -2,3 +2,5 @@
 pub mod Places
 pub mod Slots
 pub mod Effects
+pub mod Sound
+pub mod Records
