@@ -8,24 +8,23 @@ use lib.Dec.{eqb}
 use borrow.Author.Tests.{eqb-false}
 use Rattle.collector.specs.Bits.{by-bool}
 use Rattle.collector.specs.Objects.{pageOf}
-use Rattle.collector.specs.State.{St, drop}
+use Rattle.collector.specs.State.{St}
 use Rattle.collector.specs.Calls.{owns, aborted}
 use Rattle.collector.proofs.Objects.{path-mono, reach}
 use Rattle.collector.proofs.Safe.{safe-made}
-use Rattle.collector.proofs.Invariant.{Dated, Inv}
+use Rattle.collector.proofs.Invariant.{DatedIn, Inv}
 use Rattle.collector.proofs.Tables.{drop-other, drop-old, drop-is}
 use Rattle.collector.proofs.Facts.{AbortFacts}
-use Rattle.collector.proofs.Known.{whole-on, retag}
+use Rattle.collector.proofs.Known.{whole-on, retag-in}
 use Rattle.collector.proofs.Ended.{ended-exclusive, others-page, others, was-unwritten, holds-other, cot-grows, cot-shrinks}
 
-dated-abort : (s : St) (t n : ℕ) → AbortFacts s t n → Inv s
-    → Dated (s .pages .cmt) (aborted s t n .pages .rec) (s .tags .cmtTag) (aborted s t n .tags .recTag) (drop (s .locks .wr) t) (drop (s .tables .kn) t) n
+dated-abort : (s : St) (t n : ℕ) → AbortFacts s t n → Inv s → DatedIn (aborted s t n)
 dated-abort s t n g i = record {
   freeT = λ o w. by-bool (owns s t o) (λ e. rw e refl) (λ e. rw e (i .dated .freeT o (was-unwritten s t i o w e)));
   sameBorn = λ x h. by-bool (owns s t x) (λ e. rw e refl) (λ e. rw e (i .dated .sameBorn x h));
   young = λ x h. le-trans (by-bool (owns s t x) (λ e. rw e (i .whole .young x (rw e at h))) (λ e. rw e (i .dated .young x (rw e at h)))) (g .line);
   tagged = λ u o f w h r. let k = others s t i u o w in
-      retag {K = s .pages .cmt} {R = s .pages .rec} {KT = s .tags .cmtTag} {RT = s .tags .recTag} {kn = s .tables .kn} refl refl (rw (k .1) refl) (rw (k .1) refl) (λ x j. (rw (drop-is (s .tables .kn) t u x (k .2)) j, born u x (k .2) j))
+      retag-in s (aborted s t n) refl refl (rw (k .1) refl) (rw (k .1) refl) (λ x j. (rw (drop-is (s .tables .kn) t u x (k .2)) j, born u x (k .2) j))
       (i .dated .tagged u o f (k .0) (rw (k .1) at h) (rw (k .1) at r));
 }
   where

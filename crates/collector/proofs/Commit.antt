@@ -8,12 +8,12 @@ use Rattle.collector.specs.Bits.{by-bool, clash}
 use Rattle.collector.specs.Objects.{Obj, Tag, isRef, points, txns, pageOf, root, edge, Reach, Whole}
 use Rattle.collector.specs.State.{isWhite, marking, isIdle, St, objects, drop, carried, mix}
 use Rattle.collector.specs.Calls.{owns, without, committed}
-use Rattle.collector.proofs.Objects.{unoccupied, word-edge, path-mono, reach}
+use Rattle.collector.proofs.Objects.{unoccupied, path-mono, reach}
 use Rattle.collector.proofs.Safe.{Grey, here, next, Safe, seen, new, later, no-grey, by-phase, is-grey}
-use Rattle.collector.proofs.Invariant.{Dated, Tagged, before, empty, stored, Inv}
+use Rattle.collector.proofs.Invariant.{SafeIn, DatedIn, TaggedIn, before, empty, stored, Inv}
 use Rattle.collector.proofs.Tables.{drop-other, drop-old, drop-is, writer-bound}
 use Rattle.collector.proofs.Facts.{CommitFacts}
-use Rattle.collector.proofs.Known.{retag, known-range}
+use Rattle.collector.proofs.Known.{target, retag-in, known-range}
 use Rattle.collector.proofs.Reached.{known-safe}
 use Rattle.collector.proofs.Ended.{ended-exclusive, others-page, others, was-unwritten, holds-other, cot-grows, cot-shrinks}
 
@@ -57,10 +57,10 @@ module _ (s : St) (t : ℕ) (i : Inv s) where
   -- a word of a reached object that stays as it was committed
   old-leads : (o f : ℕ) → Reach (s .pages .cmt) o → isRef (s .pages .cmt o) f ≡ true → (s .pages .cmt o .word f ≡ 0 → ⊥)
       → tag′ s t (s .pages .cmt o .word f) .born ≤ s .tags .cmtTag o .time f
-  old-leads o f r j z = rw (born (s .pages .cmt o .word f) (i .whole .wf _ (edge r refl (word-edge (s .pages .cmt o) f j (i .whole .wf o r) z)))) (i .whole .leads o f r j z)
+  old-leads o f r j z = rw (born (s .pages .cmt o .word f) (i .whole .wf _ (target (i .whole) o f r j z))) (i .whole .leads o f r j z)
 
   -- a word on t's pages
-  new-leads : (o f : ℕ) → Tagged (s .pages .cmt) (s .pages .rec) (s .tags .cmtTag) (s .tags .recTag) (s .tables .kn) t o f → Reach (cmt′ s t) o
+  new-leads : (o f : ℕ) → TaggedIn s t o f → Reach (cmt′ s t) o
       → (s .pages .rec o .word f ≡ 0 → ⊥) → tag′ s t (s .pages .rec o .word f) .born ≤ s .tags .recTag o .time f
   new-leads o f (before a j y w) p z = elim (reached p) [ inl r ↦ rw (y, w) (old-leads o f r j (rw y at z)) | inr c ↦ clash a (i .known .made t o c .out) ]
   new-leads o f (empty a) p z = absurd (z a)
@@ -78,11 +78,12 @@ module _ (s : St) (t : ℕ) (i : Inv s) where
       | inr k ↦ inl (i .marks r .gone p t x (k .0) (k .1))
     ]
 
-    safe-on : {x : ℕ} → Safe (s .pass .col) (carried (s .tables .cot) (s .tables .cotF)) (s .pages .cmt) x
+    safe-on : {x : ℕ} → SafeIn s x
         → Safe (s .pass .col) (carried (drop (s .tables .cot) t) (without (s .tables) (s .pass .phase) t .cotF)) (cmt′ s t) x
     safe-on {x} (seen e) = seen e
     safe-on {x} (new e) = new (cot-grows s t i r x e)
-    safe-on {x} (later a) = by-phase (s .pass .phase) r
+    safe-on {x} (later a) = by-phase (s .pass .phase)
+        (λ p. clash (rw p refl) r)
         (λ p. elim (grey-on p a) [ inl w ↦ seen w | inr w ↦ later w ])
         (λ p. no-grey (i .marks r .noGrey p) a)
 
@@ -96,14 +97,13 @@ whole-commit s t n l i = record {
   wf = λ x p. committed-there s t i p;
 }
 
-dated-commit : (s : St) (t n : ℕ) → s .tags .now ≤ n → Inv s
-    → Dated (cmt′ s t) (s .pages .rec) (tag′ s t) (s .tags .recTag) (drop (s .locks .wr) t) (drop (s .tables .kn) t) n
+dated-commit : (s : St) (t n : ℕ) → s .tags .now ≤ n → Inv s → DatedIn (committed s t n)
 dated-commit s t n l i = record {
   freeT = λ o w. by-bool (owns s t o) (λ e. rw e refl) (λ e. rw e (i .dated .freeT o (was-unwritten s t i o w e)));
   sameBorn = λ x h. by-bool (owns s t x) (λ e. rw e refl) (λ e. rw e (i .dated .sameBorn x (rw e at h)));
   young = λ x h. le-trans (i .dated .young x h) l;
   tagged = λ u o f w h r. let k = others s t i u o w in
-      retag {K = s .pages .cmt} {R = s .pages .rec} {KT = s .tags .cmtTag} {kn = s .tables .kn} (rw (k .1) refl) (rw (k .1) refl) refl refl (λ x j. (rw (drop-is (s .tables .kn) t u x (k .2)) j, refl)) (i .dated .tagged u o f (k .0) h r);
+      retag-in s (committed s t n) (rw (k .1) refl) (rw (k .1) refl) refl refl (λ x j. (rw (drop-is (s .tables .kn) t u x (k .2)) j, refl)) (i .dated .tagged u o f (k .0) h r);
 }
 
 pub keep-commit : (s : St) (t n : ℕ) → CommitFacts s t n → Inv s → Inv (committed s t n)

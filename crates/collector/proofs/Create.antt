@@ -1,5 +1,5 @@
 -- Create keeps the invariant. Assumes nothing.
-use Prim.Native.Nat.{ℕ, suc}
+use Prim.Native.Nat.{ℕ}
 use native.Mathlib.Omega.{arith}
 use mathlib.Core.Path.{_≡_, refl, ap}
 use mathlib.Core.Bool.{true, false}
@@ -12,20 +12,19 @@ use Rattle.collector.specs.State.{St, add, carried}
 use Rattle.collector.specs.Calls.{created}
 use Rattle.collector.proofs.Objects.{unoccupied, fresh-occ, fresh-word, fresh-none}
 use Rattle.collector.proofs.Safe.{safe-made}
-use Rattle.collector.proofs.Invariant.{Dated, empty, Inv}
+use Rattle.collector.proofs.Invariant.{DatedIn, empty, Inv}
 use Rattle.collector.proofs.Tables.{add-cases, add-new}
 use Rattle.collector.proofs.Facts.{CreateFacts}
-use Rattle.collector.proofs.Known.{whole-on, retag, known-there}
+use Rattle.collector.proofs.Known.{whole-on, retag-in, known-there}
 
-dated-create : (s : St) (t o m : ℕ) → CreateFacts s t o m → Inv s
-    → Dated (s .pages .cmt) (created s t o m .pages .rec) (s .tags .cmtTag) (created s t o m .tags .recTag) (s .locks .wr) (add (s .tables .kn) t o) (suc m)
+dated-create : (s : St) (t o m : ℕ) → CreateFacts s t o m → Inv s → DatedIn (created s t o m)
 unfolding bornAt
 dated-create s t o m g i = record {
   freeT = λ x w. rw (ne-eqb x o (λ z. clash (g .own) (rw z at (w t)))) (i .dated .freeT x w);
   sameBorn = λ x h. rw (ne-eqb x o (λ z. clash (i .agreed .keeps o (rw z at h)) (g .free))) (i .dated .sameBorn x h);
   young = λ x h. let l = g .line in by-bool (eqb x o) (λ e. rw e (omega arith)) (λ e. rw e (let k = i .dated .young x (rw e at h) in omega arith));
   tagged = λ u q f w h r. by-bool (eqb q o) (λ e. empty (rw e (fresh-word f)))
-      (λ e. retag {K = s .pages .cmt} {R = s .pages .rec} {RT = s .tags .recTag} {kn = s .tables .kn} refl refl (rw e refl) (rw e refl)
+      (λ e. retag-in s (created s t o m) refl refl (rw e refl) (rw e refl)
       (λ x k. (or-l _ _ k, rw (ne-eqb x o (λ z. clash (known-there s i u x k) (rw z (g .free)))) refl)) (i .dated .tagged u q f w (rw e at h) (rw e at r)));
 }
 

@@ -60,7 +60,7 @@ pub record MarkFacts (s : St) (o : ℕ) : Type 0 where
 
 pub record TurnFacts (s : St) : Type 0 where
   pub phase : s .pass .phase ≡ marking
-  pub noGrey : (o : ℕ) → o ≤ objects s → s .pass .col o ≡ grey → ⊥
+  pub noGrey : (o : ℕ) → 1 ≤ o → o ≤ objects s → s .pass .col o ≡ grey → ⊥
 
 pub record SkipFacts (s : St) : Type 0 where
   pub phase : s .pass .phase ≡ sweeping

@@ -5,7 +5,7 @@ use mathlib.Core.Path.{_≡_}
 use mathlib.Core.Bool.{Bool, true, false}
 use mathlib.Core.Logic.{_⊎_}
 use Rattle.collector.specs.Objects.{Obj, Tag, isRef, points, txns, pageOf, Path, Whole}
-use Rattle.collector.specs.State.{Colour, grey, black, isWhite, Phase, marking, sweeping, isIdle, St, objects, carried, holds, blacks}
+use Rattle.collector.specs.State.{Colour, grey, black, isWhite, Phase, idle, marking, sweeping, isIdle, St, objects, carried, holds, blacks}
 use Rattle.collector.proofs.Safe.{Safe}
 
 abbrev pub Unwritten : (ℕ → ℕ → Bool) → ℕ → Type 0
@@ -79,6 +79,7 @@ pub record Counted (pages : ℕ) (ph : Phase) (at steps : ℕ) (col : ℕ → Co
   -- a marking step blackens one object; the turn and each page swept are one step more
   pub scanned : ph ≡ marking → steps ≡ blacks (16 * pages) col
   pub turned : ph ≡ sweeping → steps ≡ suc (blacks (16 * pages) col + at)
+  pub over : ph ≡ idle → steps ≡ 0
 
 -- word f of object o on a page that t writes: it is as committed, holds nothing, or names an object that t knows, and that no line since
 -- created or freed
@@ -98,16 +99,30 @@ pub record Dated (K R : ℕ → Obj) (KT RT : ℕ → Tag) (wr kn : ℕ → ℕ 
   -- each reference of a written page leads where it was written to (commit)
   pub tagged : (t o f : ℕ) → wr t (pageOf o) ≡ true → R o .occ ≡ true → isRef (R o) f ≡ true → Tagged K R KT RT kn t o f
 
+-- the groups of a state
+abbrev pub TaggedIn : St → ℕ → ℕ → ℕ → Type 0
+TaggedIn s t o f = Tagged (s .pages .cmt) (s .pages .rec) (s .tags .cmtTag) (s .tags .recTag) (s .tables .kn) t o f
+
+abbrev pub DatedIn : St → Type 0
+DatedIn s = Dated (s .pages .cmt) (s .pages .rec) (s .tags .cmtTag) (s .tags .recTag) (s .locks .wr) (s .tables .kn) (s .tags .now)
+
+abbrev pub MarkedIn : St → Type 0
+MarkedIn s = Marked (s .pass .phase) (s .pass .col) (s .pages .cmt) (s .tables .prt) (carried (s .tables .cot) (s .tables .cotF))
+
+abbrev pub SafeIn : St → ℕ → Type 0
+SafeIn s x = Safe (s .pass .col) (carried (s .tables .cot) (s .tables .cotF)) (s .pages .cmt) x
+
 pub record Inv (s : St) : Type 0 where
   pub whole : Whole (objects s) (s .tags .now) (s .pages .cmt) (s .tags .cmtTag)
   pub exclusive : Exclusive (s .count) (s .locks .act) (s .locks .rd) (s .locks .wr)
   pub agreed : Agreed (objects s) (s .pages .cmt) (s .pages .rec) (s .pages .cop) (s .locks .wr)
   pub prune : Pruned (objects s) (s .pages .cmt) (s .pages .rec) (s .pages .cop) (s .locks .wr) (s .tables .prt) (s .tables .dirty)
   pub known : Known (objects s) (s .pages .cmt) (s .pages .rec) (s .locks .rd) (s .locks .wr) (s .tables .kn) (s .tables .cot)
-  pub dated : Dated (s .pages .cmt) (s .pages .rec) (s .tags .cmtTag) (s .tags .recTag) (s .locks .wr) (s .tables .kn) (s .tags .now)
-  pub marks : isIdle (s .pass .phase) ≡ false → Marked (s .pass .phase) (s .pass .col) (s .pages .cmt) (s .tables .prt) (carried (s .tables .cot) (s .tables .cotF))
+  pub dated : DatedIn s
+  pub marks : isIdle (s .pass .phase) ≡ false → MarkedIn s
   pub counted : Counted (s .count) (s .pass .phase) (s .pass .at) (s .pass .steps) (s .pass .col)
 
 -- Equal parts: a call that only looks keeps the invariant.
-pub same : (s s′ : St) → s′ .count ≡ s .count → s′ .pages ≡ s .pages → s′ .tags ≡ s .tags → s′ .locks ≡ s .locks → s′ .tables ≡ s .tables → s′ .pass ≡ s .pass → Inv s → Inv s′
+pub same : (s s′ : St) → s′ .count ≡ s .count → s′ .pages ≡ s .pages → s′ .tags ≡ s .tags → s′ .locks ≡ s .locks
+    → s′ .tables ≡ s .tables → s′ .pass ≡ s .pass → Inv s → Inv s′
 same s s′ n p a l b k i = let e : s′ ≡ s = λ j. record { count = n j; pages = p j; tags = a j; locks = l j; tables = b j; pass = k j } in rw e i

@@ -5,23 +5,32 @@ use mathlib.Core.Path.{_≡_, refl}
 use mathlib.Core.Bool.{Bool, true}
 use mathlib.Core.Logic.{inl, inr}
 use Rattle.collector.specs.Bits.{clash, or-cases}
-use Rattle.collector.specs.Objects.{Obj, Tag, points, pageOf, Path, root, edge, Whole}
+use Rattle.collector.specs.Objects.{Obj, Tag, isRef, points, pageOf, Path, root, edge, Reach, Whole}
 use Rattle.collector.specs.State.{St, objects, holds}
-use Rattle.collector.proofs.Objects.{unoccupied, reach}
-use Rattle.collector.proofs.Invariant.{Dated, Tagged, before, empty, stored, Inv}
+use Rattle.collector.proofs.Objects.{unoccupied, word-edge, reach}
+use Rattle.collector.proofs.Invariant.{TaggedIn, Dated, Tagged, before, empty, stored, Inv}
 use Rattle.collector.proofs.Tables.{by-writer}
 
 -- A book that grows leaves a committed state whole.
 pub whole-on : {n k l : ℕ} {m : ℕ → Obj} {a : ℕ → Tag} → k ≤ l → Whole n k m a → Whole n l m a
 whole-on h w = record { leads = w .leads; young = λ x o. le-trans (w .young x o) h; range = w .range; wf = w .wf }
 
+-- a reference of a reached object names a reached one
+pub target : {n now : ℕ} {m : ℕ → Obj} {a : ℕ → Tag} → Whole n now m a → (o f : ℕ) → Reach m o → isRef (m o) f ≡ true → (m o .word f ≡ 0 → ⊥) → Reach m (m o .word f)
+target {m = m} w o f r j z = edge r refl (word-edge (m o) f j (w .wf o r) z)
+
 -- a word's tag under a change that keeps the word
-pub retag : {K R K′ R′ : ℕ → Obj} {KT RT KT′ RT′ : ℕ → Tag} {kn kn′ : ℕ → ℕ → Bool} {t o f : ℕ}
+retag : {K R K′ R′ : ℕ → Obj} {KT RT KT′ RT′ : ℕ → Tag} {kn kn′ : ℕ → ℕ → Bool} {t o f : ℕ}
     → K′ o ≡ K o → KT′ o ≡ KT o → R′ o .word f ≡ R o .word f → RT′ o .time f ≡ RT o .time f
     → ((x : ℕ) → kn t x ≡ true → (kn′ t x ≡ true) × (RT′ x .born ≡ RT x .born)) → Tagged K R KT RT kn t o f → Tagged K′ R′ KT′ RT′ kn′ t o f
 retag p a q r h (before x i y z) = before (rw p x) (rw p i) (rw (p, q) y) (rw (a, r) z)
 retag p a q r h (empty x) = empty (rw q x)
 retag p a q r h (stored x y) = stored (rw q (h _ x .0)) (rw (q, r, h _ x .1) y)
+
+pub retag-in : (s s′ : St) {t o f : ℕ}
+    → s′ .pages .cmt o ≡ s .pages .cmt o → s′ .tags .cmtTag o ≡ s .tags .cmtTag o → s′ .pages .rec o .word f ≡ s .pages .rec o .word f → s′ .tags .recTag o .time f ≡ s .tags .recTag o .time f
+    → ((x : ℕ) → s .tables .kn t x ≡ true → (s′ .tables .kn t x ≡ true) × (s′ .tags .recTag x .born ≡ s .tags .recTag x .born)) → TaggedIn s t o f → TaggedIn s′ t o f
+retag-in s s′ p a q r h d = retag p a q r h d
 
 -- The tags of the received objects stand, while writers know more and the book grows.
 pub dated-on : {K R : ℕ → Obj} {KT RT : ℕ → Tag} {wr kn kn′ : ℕ → ℕ → Bool} {k l : ℕ} → k ≤ l

@@ -12,8 +12,9 @@ use Rattle.collector.specs.State.{Colour, white, black, isWhite, isBlack
 use Rattle.collector.specs.Calls.{started, marked, turned}
 use Rattle.collector.proofs.Objects.{unoccupied, points-some}
 use Rattle.collector.proofs.Count.{countb-more, countb-none}
-use Rattle.collector.proofs.Safe.{Grey, here, next, Safe, seen, new, later, white-black, mark-sweep, is-grey, is-black, greyed-seen, greyed-from, greyed-still, greyed-black}
-use Rattle.collector.proofs.Invariant.{Marked, Inv}
+use Rattle.collector.proofs.Safe.{Grey, here, next, Safe, seen, new, later, white-black, mark-sweep, idle-mark, idle-sweep, is-grey, is-black}
+use Rattle.collector.proofs.Safe.{greyed-seen, greyed-from, greyed-still, greyed-black}
+use Rattle.collector.proofs.Invariant.{MarkedIn, SafeIn, Inv}
 use Rattle.collector.proofs.Tables.{by-writer, writer-bound}
 use Rattle.collector.proofs.Facts.{MarkFacts, TurnFacts}
 
@@ -42,6 +43,7 @@ keep-pass s i = record {
     page = let l = i .agreed .one in omega arith;
     scanned = λ p. sym (countb-none (objects s) _ (λ k l. greyed-black _ white));
     turned = λ p. mark-sweep refl p;
+    over = λ p. idle-mark p refl;
   };
 }
 
@@ -50,7 +52,7 @@ module _ (s : St) (o : ℕ) (g : MarkFacts s o) (i : Inv s) where
   col′ : ℕ → Colour
   col′ x = marked s o .pass .col x
 
-  was : Marked (s .pass .phase) (s .pass .col) (s .pages .cmt) (s .tables .prt) (carried (s .tables .cot) (s .tables .cotF))
+  was : MarkedIn s
   was = i .marks (rw (g .phase) refl)
 
   still : (x : ℕ) → isWhite (s .pass .col x) ≡ false → isWhite (col′ x) ≡ false
@@ -81,7 +83,7 @@ module _ (s : St) (o : ℕ) (g : MarkFacts s o) (i : Inv s) where
       (λ q. let nb : col′ w ≡ black → ⊥ = λ k. elim (black-was w k) [ inl z ↦ eqb-false w o q z | inr z ↦ b z ] in
       inr (elim (grey-on a) [ inl k ↦ next (here (is-grey (col′ w) k nb)) nb e | inr k ↦ next k nb e ]))
 
-  safe-on : {x : ℕ} → Safe (s .pass .col) (carried (s .tables .cot) (s .tables .cotF)) (s .pages .cmt) x
+  safe-on : {x : ℕ} → SafeIn s x
       → Safe col′ (carried (s .tables .cot) (s .tables .cotF)) (s .pages .cmt) x
   safe-on {x} (seen e) = seen (still x e)
   safe-on {x} (new e) = new e
@@ -120,6 +122,7 @@ keep-mark s o g i = record {
     page = i .counted .page;
     scanned = λ p. ap suc (i .counted .scanned (g .phase)) ∙ sym (one-black-more s o g i);
     turned = λ p. mark-sweep refl p;
+    over = λ p. idle-mark p refl;
   };
 }
 
@@ -136,12 +139,13 @@ keep-turn s g i = let m = i .marks (rw (g .phase) refl) in record {
     top = m .top;
     gone = λ p. mark-sweep p refl;
     edges = m .edges;
-    noGrey = λ p o e. g .noGrey o (i .counted .ranged o (rw e refl) .1) e;
+    noGrey = λ p o e. let l = i .counted .ranged o (rw e refl) in g .noGrey o (l .0) (l .1) e;
   };
   counted = record {
     ranged = i .counted .ranged;
     page = let l = i .agreed .one in omega arith;
     scanned = λ p. mark-sweep p refl;
     turned = λ p. let e = i .counted .scanned (g .phase) in omega arith;
+    over = λ p. idle-sweep p refl;
   };
 }

@@ -81,12 +81,16 @@ put-to b f v x h = anyb-elim fields _ (and-r _ _ h) λ k l e. by-bool (eqb k f)
     stays : (k : ℕ) → k < fields → (isRef b k and eqb (b .word k) x) ≡ true → eqb (put b f v .word k) x ≡ true → points (put b f v) x ≡ true
     stays k l e q = and-intro _ _ (rw put-occ (and-l _ _ h)) (anyb-intro fields _ k l (and-intro _ _ (rw put-ref (and-l _ _ e)) q))
 
-pub word-points : (b : Obj) (f x : ℕ) → isRef b f ≡ true → b .occ ≡ true → not (eqb x 0) ≡ true → eqb (b .word f) x ≡ true → points b x ≡ true
+word-points : (b : Obj) (f x : ℕ) → isRef b f ≡ true → b .occ ≡ true → not (eqb x 0) ≡ true → eqb (b .word f) x ≡ true → points b x ≡ true
 unfolding points
 word-points b f x r o z e = and-intro _ _ (and-intro _ _ o z) (anyb-intro fields _ f (ref-field b f r) (and-intro _ _ r e))
 
 pub word-edge : (b : Obj) (f : ℕ) → isRef b f ≡ true → b .occ ≡ true → (b .word f ≡ 0 → ⊥) → points b (b .word f) ≡ true
 word-edge b f r o z = word-points b f (b .word f) r o (rw (ne-eqb (b .word f) 0 z) refl) (eq-eqb (b .word f) (b .word f) refl)
+
+-- what a write takes away was a reference
+pub pruned-points : (b : Obj) (f v x : ℕ) → b .occ ≡ true → pruned b f v x ≡ true → points b x ≡ true
+pruned-points b f v x o e = word-points b f x (and-l _ _ (and-l _ _ (and-l _ _ e))) o (and-r _ _ (and-l _ _ (and-l _ _ e))) (and-r _ _ e)
 
 pub path-mono : {m n : ℕ → Obj} {q r : ℕ → Bool}
     → ((o : ℕ) → Path m q o → q (pageOf o) ≡ true → (r (pageOf o) ≡ true) × ((x : ℕ) → points (m o) x ≡ true → points (n o) x ≡ true))

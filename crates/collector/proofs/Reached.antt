@@ -5,9 +5,9 @@ use mathlib.Core.Bool.{Bool, true, false}
 use mathlib.Core.Logic.{inl, inr}
 use Rattle.collector.specs.Bits.{clash, or-l, anyb-intro}
 use Rattle.collector.specs.Objects.{Obj, points, pageOf, Path, root, edge}
-use Rattle.collector.specs.State.{Colour, Phase, isIdle, St, carried}
+use Rattle.collector.specs.State.{Colour, Phase, isIdle, St}
 use Rattle.collector.proofs.Safe.{Safe, seen, new, later, here, next, by-colour, grey-black, white-black}
-use Rattle.collector.proofs.Invariant.{Marked, Inv}
+use Rattle.collector.proofs.Invariant.{SafeIn, Marked, Inv}
 use Rattle.collector.proofs.Tables.{writer-bound}
 
 module _ {ph : Phase} {col : ℕ → Colour} {K : ℕ → Obj} {prt : ℕ → ℕ → Bool} {made : ℕ → Bool} (m : Marked ph col K prt made) where
@@ -22,7 +22,7 @@ module _ {ph : Phase} {col : ℕ → Colour} {K : ℕ → Obj} {prt : ℕ → �
 
 -- and so is what a transaction knows
 pub known-safe : (s : St) (i : Inv s) → isIdle (s .pass .phase) ≡ false → (t x : ℕ) → s .tables .kn t x ≡ true
-    → Safe (s .pass .col) (carried (s .tables .cot) (s .tables .cotF)) (s .pages .cmt) x
+    → SafeIn s x
 known-safe s i r t x k = elim (i .known .knows t x k) [
   | inl c ↦ new (or-l _ _ (anyb-intro _ _ t (writer-bound (i .exclusive) t (pageOf x) (i .known .made t x c .own)) c))
   | inr p ↦ path-safe (i .marks r) p

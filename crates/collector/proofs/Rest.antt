@@ -7,16 +7,11 @@ use mathlib.Core.Logic.{inl}
 use lib.Dec.{eqb}
 use Rattle.collector.specs.Bits.{by-bool, clash}
 use Rattle.collector.specs.Objects.{Obj, Tag, blank, fresh, bornAt, points, root, edge, Reach, Whole}
-use Rattle.collector.specs.State.{idle, marking, sweeping, St, objects, atRest, formatted}
+use Rattle.collector.specs.State.{St, objects, atRest, formatted}
 use Rattle.collector.specs.Calls.{reset}
 use Rattle.collector.proofs.Objects.{fresh-occ, fresh-none, blank-none}
+use Rattle.collector.proofs.Safe.{idle-mark, idle-sweep}
 use Rattle.collector.proofs.Invariant.{Inv}
-
-not-marking : {A : Type 0} → idle ≡ marking → A
-not-marking p = let y : _≡_ {A = ℕ} 0 1 = cc in absurd (omega arith)
-
-not-sweeping : {A : Type 0} → idle ≡ sweeping → A
-not-sweeping p = let y : _≡_ {A = ℕ} 0 1 = cc in absurd (omega arith)
 
 at-rest : (p : ℕ) (m : ℕ → Obj) (a : ℕ → Tag) (n : ℕ) → 1 ≤ 16 * p → Whole (16 * p) n m a → Inv (atRest p m a n)
 at-rest p m a n l w = record {
@@ -27,7 +22,7 @@ at-rest p m a n l w = record {
   known = record { wrote = λ t o x e k. inl k; knows = λ t x e. clash e refl; made = λ t o e. clash e refl };
   dated = record { freeT = λ o e. refl; sameBorn = λ x h. refl; young = w .young; tagged = λ t o f e. clash e refl };
   marks = λ r. clash refl r;
-  counted = record { ranged = λ o e. clash refl e; page = omega arith; scanned = not-marking; turned = not-sweeping };
+  counted = record { ranged = λ o e. clash refl e; page = omega arith; scanned = λ e. idle-mark refl e; turned = λ e. idle-sweep refl e; over = λ e. refl };
 }
 
 pub keep-reset : (s : St) (m : ℕ → Obj) (a : ℕ → Tag) (n : ℕ) → Whole (objects s) n m a → Inv s → Inv (reset s m a n)

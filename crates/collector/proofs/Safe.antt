@@ -6,7 +6,7 @@ use mathlib.Core.Bool.{Bool, true, false}
 use mathlib.Core.Logic.{_⊎_, inl, inr}
 use Rattle.collector.specs.Bits.{clash}
 use Rattle.collector.specs.Objects.{Obj, points}
-use Rattle.collector.specs.State.{Colour, white, grey, black, isWhite, isGrey, isBlack, greyed, Phase, idle, marking, sweeping, isIdle, isSweeping}
+use Rattle.collector.specs.State.{Colour, white, grey, black, isWhite, isGrey, isBlack, greyed, Phase, idle, marking, sweeping, isSweeping}
 
 -- reached from a grey object through objects that are not black
 pub data Grey (col : ℕ → Colour) (m : ℕ → Obj) : ℕ → Type 0 where
@@ -34,10 +34,10 @@ by-colour white f g h = f refl
 by-colour grey f g h = g refl
 by-colour black f g h = h refl
 
-pub by-phase : {A : Type 0} (p : Phase) → isIdle p ≡ false → (p ≡ marking → A) → (p ≡ sweeping → A) → A
-by-phase idle r f g = clash refl r
-by-phase marking r f g = f refl
-by-phase sweeping r f g = g refl
+pub by-phase : {A : Type 0} (p : Phase) → (p ≡ idle → A) → (p ≡ marking → A) → (p ≡ sweeping → A) → A
+by-phase idle e f g = e refl
+by-phase marking e f g = f refl
+by-phase sweeping e f g = g refl
 
 pub grey-black : {A : Type 0} {c : Colour} → c ≡ grey → c ≡ black → A
 grey-black {A} {c} p q = let y : _≡_ {A = ℕ} 0 1 = cc in absurd (omega arith)
@@ -47,6 +47,12 @@ white-black {A} {c} p q = let y : _≡_ {A = ℕ} 0 1 = cc in absurd (omega arit
 
 pub mark-sweep : {A : Type 0} {p : Phase} → p ≡ marking → p ≡ sweeping → A
 mark-sweep {A} {p} a b = let y : _≡_ {A = ℕ} 0 1 = cc in absurd (omega arith)
+
+pub idle-mark : {A : Type 0} {p : Phase} → p ≡ idle → p ≡ marking → A
+idle-mark {A} {p} a b = let y : _≡_ {A = ℕ} 0 1 = cc in absurd (omega arith)
+
+pub idle-sweep : {A : Type 0} {p : Phase} → p ≡ idle → p ≡ sweeping → A
+idle-sweep {A} {p} a b = let y : _≡_ {A = ℕ} 0 1 = cc in absurd (omega arith)
 
 -- what is marked and not black is grey
 pub is-grey : (c : Colour) → isWhite c ≡ false → (c ≡ black → ⊥) → c ≡ grey

@@ -5,17 +5,18 @@ use mathlib.Core.Path.{_≡_, refl, ap, _∙_}
 use mathlib.Core.Bool.{true, false, not}
 use mathlib.Core.List.{List, [], _∷_}
 use mathlib.Core.Logic.{_⊎_, inl, inr}
-use Rattle.collector.specs.Bits.{_or_, by-bool, clash, and-l, and-r, or-l, or-false-l, anyb-intro, anyb-elim, and-intro, first-none}
-use Rattle.collector.specs.Objects.{isRef, txns, pageOf, root, edge, Reach}
-use Rattle.collector.specs.State.{Phase, idle, marking, sweeping, isGrey, St, objects, formatted, holds}
-use Rattle.collector.specs.Calls.{Call, begin, commit, abort, lockr, lockw, read, create, flush, set, pass, step, reopen, allowed, after, perform, stepped, lowestGrey, skipped, frees, dead}
-use Rattle.collector.specs.Claim.{reclaims, Leads, Sound, Lawful, Throughout, last, then, Each, none, more}
-use Rattle.collector.proofs.Objects.{unoccupied, word-edge, reach}
+use Rattle.collector.specs.Bits.{_or_, by-bool, clash, and-l, and-r, or-false-l, and-intro, first-none}
+use Rattle.collector.specs.Objects.{Obj, Tag, isRef, pageOf, root, edge, Reach, Whole}
+use Rattle.collector.specs.State.{Phase, idle, marking, sweeping, isGrey, St, objects, formatted}
+use Rattle.collector.specs.Calls.{Call, begin, commit, abort, lockr, lockw, read, create, flush, set, pass, step, reopen, allowed, after, perform}
+use Rattle.collector.specs.Calls.{stepped, lowestGrey, skipped, frees, dead}
+use Rattle.collector.specs.Claim.{reclaims, Leads, Sound, Lawful, plain, back, Throughout, last, then, Each, none, more}
+use Rattle.collector.proofs.Objects.{unoccupied, reach}
 use Rattle.collector.proofs.Safe.{grey-is, is-sweeping}
-use Rattle.collector.proofs.Invariant.{Tagged, before, empty, stored, Inv}
-use Rattle.collector.proofs.Tables.{is-false, by-writer, unwritten}
+use Rattle.collector.proofs.Invariant.{TaggedIn, before, empty, stored, Inv}
+use Rattle.collector.proofs.Tables.{by-writer, unheld}
 use Rattle.collector.proofs.Facts.{begin-facts, commit-facts, lockr-facts, lockw-facts, read-facts, create-facts, set-facts, flush-facts}
-use Rattle.collector.proofs.Known.{received}
+use Rattle.collector.proofs.Known.{target, received}
 use Rattle.collector.proofs.Locking.{keep-begin, keep-lockr, keep-lockw, keep-read}
 use Rattle.collector.proofs.Create.{keep-create}
 use Rattle.collector.proofs.Write.{keep-set, keep-flush}
@@ -31,15 +32,19 @@ keep-step s marking r i = by-bool (isGrey (s .pass .col (lowestGrey s)))
     (λ e. rw e (keep-mark s (lowestGrey s) (record { phase = r; colour = grey-is _ e }) i))
     (λ e. rw e (keep-turn s (record {
       phase = r;
-      noGrey = λ o l c. clash (rw c refl) (first-none (objects s) 1 (λ x. isGrey (s .pass .col x)) e o (i .counted .ranged o (rw c refl) .0) (omega arith));
+      noGrey = λ o k l c. clash (rw c refl) (first-none (objects s) 1 (λ x. isGrey (s .pass .col x)) e o k (omega arith));
     }) i))
 keep-step s sweeping r i = by-bool (skipped s or not (frees s))
     (λ e. rw e (keep-skip s (record { phase = r }) i))
     (λ e. rw e (keep-sweep s (s .tags .now) (record {
       phase = r;
-      free = unwritten (i .exclusive) (s .pass .at) (is-false _ (λ h. anyb-elim _ _ h (λ t l w. clash (anyb-intro txns (λ u. holds (s .locks .wr) (s .locks .rd) u (s .pass .at)) t l (or-l _ _ w)) (or-false-l _ _ e))));
+      free = unheld (i .exclusive) (s .pass .at) (or-false-l _ _ e);
       line = omega arith;
     }) i))
+
+went-back : {k : ℕ} {m : ℕ → Obj} {a : ℕ → Tag} {n : ℕ} → Lawful k (reopen m a n) → Whole k n m a
+went-back (plain h) = clash refl h
+went-back (back w) = w
 
 keep-after : (s : St) (c : Call) → Lawful (objects s) c → allowed s c ≡ true → Inv s → Inv (after s c)
 keep-after s (begin t) h g i = keep-begin s t _ (begin-facts s t g) i
@@ -53,7 +58,7 @@ keep-after s (set t o f v) h g i = keep-set s t o f v _ (set-facts s t o f v g) 
 keep-after s (flush t p) h g i = keep-flush s t p (flush-facts s t p g) i
 keep-after s pass h g i = keep-pass s i
 keep-after s step h g i = keep-step s (s .pass .phase) refl i
-keep-after s (reopen m a n) h g i = keep-reset s m a n (h .whole m a n refl) i
+keep-after s (reopen m a n) h g i = keep-reset s m a n (went-back h) i
 
 pub keep : (s : St) (c : Call) → Lawful (objects s) c → Inv s → Inv (perform s c)
 unfolding perform
@@ -83,9 +88,9 @@ full-leads s i = record {
     old : (o f : ℕ) → Reach (s .pages .cmt) o → isRef (s .pages .cmt o) f ≡ true → (s .pages .rec o .word f ≡ 0 → ⊥) → s .pages .rec o .word f ≡ s .pages .cmt o .word f
         → s .tags .recTag o .time f ≡ s .tags .cmtTag o .time f → s .tags .recTag (s .pages .rec o .word f) .born ≤ s .tags .recTag o .time f
     old o f r j z y w = let z′ : s .pages .cmt o .word f ≡ 0 → ⊥ = rw y at z in
-        rw (y, w, i .dated .sameBorn (s .pages .cmt o .word f) (i .whole .wf _ (edge r refl (word-edge (s .pages .cmt o) f j (i .whole .wf o r) z′)))) (i .whole .leads o f r j z′)
+        rw (y, w, i .dated .sameBorn (s .pages .cmt o .word f) (i .whole .wf _ (target (i .whole) o f r j z′))) (i .whole .leads o f r j z′)
 
-    go : (t o f : ℕ) → Reach (s .pages .rec) o → (s .pages .rec o .word f ≡ 0 → ⊥) → Tagged (s .pages .cmt) (s .pages .rec) (s .tags .cmtTag) (s .tags .recTag) (s .tables .kn) t o f
+    go : (t o f : ℕ) → Reach (s .pages .rec) o → (s .pages .rec o .word f ≡ 0 → ⊥) → TaggedIn s t o f
         → s .tags .recTag (s .pages .rec o .word f) .born ≤ s .tags .recTag o .time f
     go t o f p z (before a j y w) = elim (full-reach s i p) [ inl r ↦ old o f r j z y w | inr c ↦ clash a (i .known .made (c .0) o (c .1) .out) ]
     go t o f p z (empty a) = absurd (z a)

@@ -7,26 +7,26 @@ use mathlib.Core.Logic.{inl, inr}
 use lib.Dec.{ltb}
 use borrow.Author.Tests.{ltb-true}
 use Rattle.collector.specs.Bits.{by-bool, clash}
-use Rattle.collector.specs.Objects.{isRef, points, pageOf, Path, edge, Reach, Whole}
+use Rattle.collector.specs.Objects.{isRef, points, pageOf, Path, Reach, Whole}
 use Rattle.collector.specs.State.{idle, marking, sweeping, Pass, St, objects, carried}
 use Rattle.collector.specs.Calls.{onward, advanced, dead, swept}
-use Rattle.collector.proofs.Objects.{blank-occ, blank-none, word-edge, path-mono}
-use Rattle.collector.proofs.Safe.{Safe, seen, new, later, no-grey}
-use Rattle.collector.proofs.Invariant.{Marked, Counted, Dated, Inv}
+use Rattle.collector.proofs.Objects.{blank-occ, blank-none, path-mono}
+use Rattle.collector.proofs.Safe.{Safe, seen, new, later, no-grey, mark-sweep, idle-mark, idle-sweep}
+use Rattle.collector.proofs.Invariant.{MarkedIn, SafeIn, Counted, DatedIn, Inv}
 use Rattle.collector.proofs.Tables.{is-false}
 use Rattle.collector.proofs.Facts.{SkipFacts, SweepFacts, dead-facts}
-use Rattle.collector.proofs.Known.{retag}
+use Rattle.collector.proofs.Known.{target, retag-in}
 use Rattle.collector.proofs.Reached.{path-safe, known-safe}
 
 module _ (s : St) (i : Inv s) (r : s .pass .phase ≡ sweeping) where
-  was : Marked (s .pass .phase) (s .pass .col) (s .pages .cmt) (s .tables .prt) (carried (s .tables .cot) (s .tables .cotF))
+  was : MarkedIn s
   was = i .marks (rw r refl)
 
   -- what is safe is not freed
-  pub spared : (x : ℕ) → Safe (s .pass .col) (carried (s .tables .cot) (s .tables .cotF)) (s .pages .cmt) x → dead s x ≡ false
+  pub spared : (x : ℕ) → SafeIn s x → dead s x ≡ false
   spared x h = is-false (dead s x) (go h)
     where
-      go : Safe (s .pass .col) (carried (s .tables .cot) (s .tables .cotF)) (s .pages .cmt) x → dead s x ≡ true → ⊥
+      go : SafeIn s x → dead s x ≡ true → ⊥
       go (seen e) d = clash (dead-facts s x d .white) e
       go (new e) d = clash e (dead-facts s x d .free)
       go (later g) d = no-grey (was .noGrey r) g
@@ -38,11 +38,8 @@ module _ (s : St) (i : Inv s) (r : s .pass .phase ≡ sweeping) where
   spared-known t x k = spared x (known-safe s i (rw r refl) t x k)
 
 onward-phase : {A : Type 0} (b : Bool) → cond b sweeping idle ≡ marking → A
-onward-phase true p = let y : _≡_ {A = ℕ} 0 1 = cc in absurd (omega arith)
-onward-phase false p = let y : _≡_ {A = ℕ} 0 1 = cc in absurd (omega arith)
-
-over : {A : Type 0} → idle ≡ sweeping → A
-over p = let y : _≡_ {A = ℕ} 0 1 = cc in absurd (omega arith)
+onward-phase true p = mark-sweep p refl
+onward-phase false p = idle-mark refl p
 
 onward-counted : (p : ℕ) (a : Pass) → a .phase ≡ sweeping → Counted p (a .phase) (a .at) (a .steps) (a .col)
     → Counted p (onward p a .phase) (onward p a .at) (onward p a .steps) (a .col)
@@ -50,7 +47,8 @@ onward-counted p a r c = record {
   ranged = c .ranged;
   page = by-bool (ltb (suc (a .at)) p) (λ e. rw e (ltb-true _ _ e)) (λ e. rw e (let l = c .page in omega arith));
   scanned = λ ph. onward-phase (ltb (suc (a .at)) p) ph;
-  turned = λ ph. by-bool (ltb (suc (a .at)) p) (λ e. rw e (let n = c .turned r in omega arith)) (λ e. over (rw e at ph));
+  turned = λ ph. by-bool (ltb (suc (a .at)) p) (λ e. rw e (let n = c .turned r in omega arith)) (λ e. idle-sweep refl (rw e at ph));
+  over = λ ph. by-bool (ltb (suc (a .at)) p) (λ e. idle-sweep (rw e at ph) refl) (λ e. rw e refl);
 }
 
 pub keep-skip : (s : St) → SkipFacts s → Inv s → Inv (advanced s)
@@ -82,20 +80,21 @@ module _ (s : St) (m : ℕ) (g : SweepFacts s m) (i : Inv s) where
 
   whole-sweep : Whole (objects s) (suc m) (swept s m .pages .cmt) (swept s m .tags .cmtTag)
   whole-sweep = record {
-    leads = λ o f p j z. let e = alive p in let q = was-reached p in let j′ : isRef (s .pages .cmt o) f ≡ true = rw e at j in let z′ : s .pages .cmt o .word f ≡ 0 → ⊥ = rw e at z in
-        rw (e, spared-reached s i (g .phase) (edge q refl (word-edge (s .pages .cmt o) f j′ (i .whole .wf o q) z′))) (i .whole .leads o f q j′ z′);
+    leads = λ o f p j z. let e = alive p in let q = was-reached p in let j′ : isRef (s .pages .cmt o) f ≡ true = rw e at j in
+        let z′ : s .pages .cmt o .word f ≡ 0 → ⊥ = rw e at z in
+        rw (e, spared-reached s i (g .phase) (target (i .whole) o f q j′ z′)) (i .whole .leads o f q j′ z′);
     young = λ x h. by-bool (dead s x) (λ e. clash (rw e at h) blank-occ) (λ e. rw e (let k = i .whole .young x (rw e at h) in let l = g .line in omega arith));
     range = λ o x e. i .whole .range o x (left o x e);
     wf = λ x p. rw (alive p) (i .whole .wf x (was-reached p));
   }
 
-  dated-sweep : Dated (swept s m .pages .cmt) (swept s m .pages .rec) (swept s m .tags .cmtTag) (swept s m .tags .recTag) (s .locks .wr) (s .tables .kn) (suc m)
+  dated-sweep : DatedIn (swept s m)
   dated-sweep = record {
     freeT = λ o w. by-bool (dead s o) (λ e. rw e refl) (λ e. rw e (i .dated .freeT o w));
     sameBorn = λ x h. by-bool (dead s x) (λ e. rw e refl) (λ e. rw e (i .dated .sameBorn x (rw e at h)));
     young = λ x h. by-bool (dead s x) (λ e. clash (rw e at h) blank-occ) (λ e. rw e (let k = i .dated .young x (rw e at h) in let l = g .line in omega arith));
     tagged = λ u o f w h j. let e = spared-page u o w in
-        retag {K = s .pages .cmt} {R = s .pages .rec} {KT = s .tags .cmtTag} {RT = s .tags .recTag} {kn = s .tables .kn} (rw e refl) (rw e refl) (rw e refl) (rw e refl)
+        retag-in s (swept s m) (rw e refl) (rw e refl) (rw e refl) (rw e refl)
         (λ x k. (k, rw (spared-known s i (g .phase) u x k) refl)) (i .dated .tagged u o f w (rw e at h) (rw e at j));
   }
 
@@ -132,7 +131,7 @@ keep-sweep s m g i = record {
   counted = onward-counted (s .count) (s .pass) (g .phase) (i .counted);
 }
   where
-    kept : {x : ℕ} → Safe (s .pass .col) (carried (s .tables .cot) (s .tables .cotF)) (s .pages .cmt) x
+    kept : {x : ℕ} → SafeIn s x
         → Safe (s .pass .col) (carried (s .tables .cot) (s .tables .cotF)) (swept s m .pages .cmt) x
     kept (seen e) = seen e
     kept (new e) = new e

@@ -6,20 +6,19 @@ use mathlib.Core.Bool.{true, false}
 use mathlib.Core.Logic.{_⊎_, inl, inr}
 use lib.Dec.{eqb}
 use borrow.Author.Tests.{eqb-true, eq-eqb, ne-eqb}
-use Rattle.collector.specs.Bits.{by-bool, clash, and-l, and-r, and-intro, false-and, and-false, or-l, or-r, or-cases, or-false-l}
+use Rattle.collector.specs.Bits.{by-bool, clash, and-r, and-intro, false-and, and-false, or-l, or-r, or-cases, or-false-l}
 use Rattle.collector.specs.Objects.{put, stamp, isRef, pageOf}
 use Rattle.collector.specs.State.{white, grey, St, objects, blacks}
 use Rattle.collector.specs.Calls.{pruned, written, flushed}
-use Rattle.collector.proofs.Objects.{points-some, put-occ, put-ref, put-same, put-other, put-from, put-to, word-points}
+use Rattle.collector.proofs.Objects.{points-some, put-occ, put-ref, put-same, put-other, put-from, put-to, pruned-points}
 use Rattle.collector.proofs.Count.{countb-same}
 use Rattle.collector.proofs.Safe.{greyed-moves, greyed-seen, greyed-not, greyed-from, still-seen, black-before, same-black, safe-after}
-use Rattle.collector.proofs.Invariant.{Dated, empty, stored, Inv}
+use Rattle.collector.proofs.Invariant.{DatedIn, empty, stored, Inv}
 use Rattle.collector.proofs.Tables.{add-new, remove-other}
 use Rattle.collector.proofs.Facts.{SetFacts, FlushFacts}
-use Rattle.collector.proofs.Known.{whole-on, retag, known-there, rec-range}
+use Rattle.collector.proofs.Known.{whole-on, retag-in, known-there, rec-range}
 
-dated-set : (s : St) (t o f v m : ℕ) → SetFacts s t o f v m → Inv s
-    → Dated (s .pages .cmt) (written s t o f v m .pages .rec) (s .tags .cmtTag) (written s t o f v m .tags .recTag) (s .locks .wr) (s .tables .kn) (suc m)
+dated-set : (s : St) (t o f v m : ℕ) → SetFacts s t o f v m → Inv s → DatedIn (written s t o f v m)
 unfolding stamp
 dated-set s t o f v m g i = record {
   freeT = λ x w. rw (ne-eqb x o (λ z. clash (g .own) (rw z at (w t)))) (i .dated .freeT x w);
@@ -32,9 +31,9 @@ dated-set s t o f v m g i = record {
         | inr z ↦ stored (rw (e, put-same (s .pages .rec o) f v k d, i .exclusive .sole u t (pageOf q) w (rw (eqb-true q o e) (g .own))) z)
             (rw (e, d, put-same (s .pages .rec o) f v k d, born v) (let l = g .line in let y = i .dated .young v (known-there s i t v z) in omega arith))
       ])
-      (λ d. retag {K = s .pages .cmt} {R = s .pages .rec} {RT = s .tags .recTag} refl refl (rw (e, put-other (s .pages .rec o) f v k d, eqb-true q o e)) (rw (e, d, eqb-true q o e)) (λ x j. (j, born x))
+      (λ d. retag-in s (written s t o f v m) refl refl (rw (e, put-other (s .pages .rec o) f v k d, eqb-true q o e)) (rw (e, d, eqb-true q o e)) (λ x j. (j, born x))
       (i .dated .tagged u q k w (sym (occ q) ∙ h) (rw (eqb-true q o e) r′))))
-      (λ e. retag {K = s .pages .cmt} {R = s .pages .rec} {RT = s .tags .recTag} refl refl (rw e refl) (rw e refl) (λ x j. (j, born x)) (i .dated .tagged u q k w (rw e at h) (rw e at r)));
+      (λ e. retag-in s (written s t o f v m) refl refl (rw e refl) (rw e refl) (λ x j. (j, born x)) (i .dated .tagged u q k w (rw e at h) (rw e at r)));
 }
   where
     born : (x : ℕ) → written s t o f v m .tags .recTag x .born ≡ s .tags .recTag x .born
@@ -96,6 +95,7 @@ keep-set s t o f v m g i = record {
     ranged = λ x h. elim (greyed-from _ _ h) [ inl e ↦ old-range x (and-r _ _ e) | inr e ↦ i .counted .ranged x e ];
     page = i .counted .page;
     scanned = λ ph. i .counted .scanned ph ∙ sym same-blacks;
+    over = i .counted .over;
     turned = λ ph. i .counted .turned ph ∙ ap (λ b. suc (b + s .pass .at)) (sym same-blacks);
   };
 }
@@ -114,7 +114,7 @@ keep-set s t o f v m g i = record {
 
     -- the reference taken away names an object of the store
     old-range : (x : ℕ) → pruned (s .pages .rec o) f v x ≡ true → (1 ≤ x) × (x ≤ objects s)
-    old-range x e = let p = word-points (s .pages .rec o) f x (and-l _ _ (and-l _ _ (and-l _ _ e))) (known-there s i t o (g .known)) (and-r _ _ (and-l _ _ (and-l _ _ e))) (and-r _ _ e) in
+    old-range x e = let p = pruned-points (s .pages .rec o) f v x (known-there s i t o (g .known)) e in
         let z = points-some (s .pages .rec o) x p in (omega arith, rec-range s i o x p)
 
 pub keep-flush : (s : St) (t p : ℕ) → FlushFacts s t p → Inv s → Inv (flushed s t p)

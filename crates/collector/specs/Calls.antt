@@ -8,7 +8,7 @@ use lib.Dec.{eqb, leb, ltb}
 use Rattle.collector.specs.Bits.{_and_, _or_, anyb, allb, first}
 use Rattle.collector.specs.Objects.{Obj, Tag, blank, fresh, put, bornAt, stamp, fields, isRef, points, txns, pageOf}
 use Rattle.collector.specs.State.{white, black, isWhite, isGrey, greyed, Phase, idle, marking, sweeping, isIdle, isMarking}
-use Rattle.collector.specs.State.{Tags, Locks, Tables, Pass, St, objects, add, remove, drop, some, carried, mix, holds, atRest}
+use Rattle.collector.specs.State.{Locks, Tables, Pass, St, objects, add, remove, drop, some, carried, mix, holds, atRest}
 
 abbrev pub knowing : Tables → (ℕ → ℕ → Bool) → Tables
 knowing b kn = record { kn = kn; prt = b .prt; cot = b .cot; cotF = b .cotF; dirty = b .dirty }

@@ -2,12 +2,12 @@
 -- itself never mentions it. Assumes nothing.
 use Prim.Native.Nat.{ℕ, _≤_}
 use mathlib.Core.Path.{_≡_}
-use mathlib.Core.Bool.{Bool, true}
+use mathlib.Core.Bool.{Bool, true, false}
 use mathlib.Core.List.{List, [], _∷_}
 use Rattle.collector.specs.Bits.{_and_}
 use Rattle.collector.specs.Objects.{Obj, Tag, isRef, points, Reach, Whole}
 use Rattle.collector.specs.State.{St, isSweeping}
-use Rattle.collector.specs.Calls.{Call, reopen, dead, perform}
+use Rattle.collector.specs.Calls.{Call, begin, commit, abort, lockr, lockw, read, create, flush, set, pass, step, reopen, dead, perform}
 
 -- a pass step would free x
 abbrev pub reclaims : St → ℕ → Bool
@@ -27,9 +27,24 @@ pub record Sound (s : St) : Type 0 where
   pub committed : Leads (s .pages .cmt) (s .tags .cmtTag)
   pub full : Leads (s .pages .rec) (s .tags .recTag)
 
--- a reopening goes back to a state that is whole
-pub record Lawful (n : ℕ) (c : Call) : Type 0 where
-  pub whole : (m : ℕ → Obj) (a : ℕ → Tag) (now : ℕ) → c ≡ reopen m a now → Whole n now m a
+abbrev pub isReopen : Call → Bool
+isReopen (begin t) = false
+isReopen (commit t) = false
+isReopen (abort t k) = false
+isReopen (lockr t p) = false
+isReopen (lockw t p) = false
+isReopen (read t o) = false
+isReopen (create t o) = false
+isReopen (flush t p) = false
+isReopen (set t o f v) = false
+isReopen pass = false
+isReopen step = false
+isReopen (reopen m a now) = true
+
+-- a reopening goes back to a committed state that is whole
+pub data Lawful (n : ℕ) : Call → Type 0 where
+  plain : {c : Call} → isReopen c ≡ false → Lawful n c
+  back : {m : ℕ → Obj} {a : ℕ → Tag} {now : ℕ} → Whole n now m a → Lawful n (reopen m a now)
 
 -- at every state of the run
 pub data Throughout (P : St → Type 0) : St → List Call → Type 0 where

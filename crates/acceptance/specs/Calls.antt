@@ -1,0 +1,32 @@
+-- 'Refused calls change nothing', of every call. Assumes nothing.
+use mathlib.Core.Path.{_≡_}
+use Rattle.areas.specs.Areas.{Areas}
+use Rattle.calls.specs.Calls.{Call, perform}
+use Rattle.calls.specs.Calls.Call.{begin, commit, abort, lockRead, lockWrite, read, create, setWord, flush, force, store, empty, pass, step, reopen, restep}
+use Rattle.acceptance.specs.Ran.{Keeps}
+use Rattle.acceptance.specs.Transactions.{begin-outcome, commit-outcome, abort-outcome}
+use Rattle.acceptance.specs.Locks.{lock-read-outcome, lock-write-outcome}
+use Rattle.acceptance.specs.Objects.{read-outcome, create-outcome, set-outcome, flush-outcome}
+use Rattle.acceptance.specs.Stability.{force-outcome, store-outcome, empty-outcome}
+use Rattle.acceptance.specs.Pass.{pass-outcome, step-outcome}
+use Rattle.acceptance.specs.Reopening.{reopen-keeps, restep-outcome}
+
+-- accepted (perform s c .answer) ≡ false → perform s c .after ≡ s
+pub refused-keeps : (s : Areas) (c : Call) → Keeps s (perform s c)
+unfolding perform
+refused-keeps s (begin t) = begin-outcome s t .keeps
+refused-keeps s (commit t) = commit-outcome s t .keeps
+refused-keeps s (abort t) = abort-outcome s t .keeps
+refused-keeps s (lockRead t p) = lock-read-outcome s t p .keeps
+refused-keeps s (lockWrite t p) = lock-write-outcome s t p .keeps
+refused-keeps s (read t o buffer) = read-outcome s t o buffer .keeps
+refused-keeps s (create t o) = create-outcome s t o .keeps
+refused-keeps s (setWord t o f v) = set-outcome s t o f v .keeps
+refused-keeps s (flush t p image) = flush-outcome s t p image .keeps
+refused-keeps s force = force-outcome s .keeps
+refused-keeps s (store p) = store-outcome s p .keeps
+refused-keeps s empty = empty-outcome s .keeps
+refused-keeps s pass = pass-outcome s .keeps
+refused-keeps s step = step-outcome s .keeps
+refused-keeps s reopen = reopen-keeps s
+refused-keeps s restep = restep-outcome s .keeps

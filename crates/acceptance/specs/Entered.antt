@@ -1,0 +1,106 @@
+-- Document 01, refusals 1 and 2: what a call that they do not stop knows of the areas, and how they are computed. Assumes nothing.
+use Prim.Native.Nat.{ℕ, _+_, _*_, _<_, _≤_}
+use mathlib.Core.Path.{_≡_, refl, sym, ap, _∙_}
+use mathlib.Core.Bool.{Bool, true, false, not, _&&_, _||_}
+use lib.ListN.{length}
+use lib.Dec.{eqb}
+use native.Mathlib.Omega.{arith}
+use borrow.Author.Tests.{eqb-true, eq-eqb, ne-eqb}
+use Rattle.words.specs.Tests.{if, if-t, if-f, and-split, and-t, and-f, clash}
+use Rattle.areas.specs.declared.Refusal.{Refusal}
+use Rattle.areas.specs.declared.Refusal.the-variants.{Malformed, NotOpen}
+use Rattle.areas.specs.declared.Ready.{Ready}
+use Rattle.areas.specs.declared.Ready.the-variants.{Go, Not}
+use Rattle.areas.specs.Areas.{Areas}
+use Rattle.areas.specs.Ranges.{fit, inRange}
+use Rattle.areas.specs.Entry.{pages, records, reopening, wellFormed, readiness}
+use Rattle.acceptance.specs.Lengths.{Sized, sized}
+use Rattle.acceptance.specs.Working.{Ranged, ranged}
+
+-- of any call: own, the lengths of its own buffers; must, that the reopening has to be finished
+pub record Entered (must own : Bool) (s : Areas) (n : ℕ) : Type 0 where
+  pub sized : Sized s n
+  pub own-fits : own ≡ true
+  pub finished : must ≡ true → reopening s ≡ 2
+  pub ranged : (reopening s ≡ 0 → ⊥) → Ranged s n
+
+-- of a call that needs the reopening finished: all of it
+pub record Open (s : Areas) (n : ℕ) : Type 0 where
+  pub sized : Sized s n
+  pub finished : reopening s ≡ 2
+  pub ranged : Ranged s n
+
+-- a word that is or is not 0, and the range that is asked for only where it is not
+range-asked : (x : ℕ) (range : Bool) → (x ≡ 0 → ⊥) → (if (eqb x 0) true range) ≡ true → range ≡ true
+range-asked x range no0 h = sym (if-f (eqb x 0) true range (ne-eqb x 0 no0)) ∙ h
+
+record Formed (own : Bool) (s : Areas) : Type 0 where
+  own-fits : own ≡ true
+  lengths : fit s ≡ true
+  range : (reopening s ≡ 0 → ⊥) → inRange s (pages s) (records s) ≡ true
+
+formed : (own : Bool) (s : Areas) → wellFormed own s ≡ true → Formed own s
+unfolding wellFormed
+formed own s h =
+    let p = and-split _ _ h in
+    let q = and-split own (fit s) (p .0) in
+    record {
+      own-fits = q .0;
+      lengths = q .1;
+      range = λ no0. range-asked (reopening s) (inRange s (pages s) (records s)) no0 (p .1);
+    }
+
+-- refusals 1 and 2 as one choice
+chosen : (formed finished : Bool) (m n : ℕ) → if formed (if finished (Go m) (Not NotOpen)) (Not Malformed) ≡ Go n → (formed ≡ true) × (finished ≡ true) × (m ≡ n)
+chosen true true m n e = (refl, refl, cc)
+chosen true false m n e = let z : _≡_ {A = ℕ} 0 1 = cc in absurd (omega arith)
+chosen false finished m n e = let z : _≡_ {A = ℕ} 0 1 = cc in absurd (omega arith)
+
+when-must : (must done : Bool) → not must || done ≡ true → must ≡ true → done ≡ true
+when-must true done h e = h
+when-must false done h e = clash e refl
+
+pub entered : (must own : Bool) (s : Areas) (n : ℕ) → readiness must own s ≡ Go n → Entered must own s n
+unfolding readiness
+entered must own s n h =
+    let c = chosen (wellFormed own s) (not must || eqb (reopening s) 2) (pages s) n h in
+    let f = formed own s (c .0) in
+    let z = sized s n (f .lengths) (c .2) in
+    record {
+      sized = z;
+      own-fits = f .own-fits;
+      finished = λ m. eqb-true _ _ (when-must must (eqb (reopening s) 2) (c .1) m);
+      ranged = λ no0. ranged s n (z .low) (rw (c .2) at (f .range no0));
+    }
+
+pub opened : (own : Bool) (s : Areas) (n : ℕ) → readiness true own s ≡ Go n → Open s n
+opened own s n h =
+    let e = entered true own s n h in
+    let two = e .finished refl in
+    record { sized = e .sized; finished = two; ranged = e .ranged (λ z. omega arith) }
+
+-- how the tests give the answer, as the code finds it
+
+pub formed-unfit : (own : Bool) (s : Areas) → own && fit s ≡ false → false ≡ wellFormed own s
+unfolding wellFormed
+formed-unfit own s h = sym (and-f _ _ h)
+
+pub formed-zero : (own : Bool) (s : Areas) → own && fit s ≡ true → reopening s ≡ 0 → true ≡ wellFormed own s
+unfolding wellFormed
+formed-zero own s h e = sym (and-t _ _ h ∙ if-t _ _ _ (eq-eqb _ _ e))
+
+pub formed-range : (own : Bool) (s : Areas) → own && fit s ≡ true → (reopening s ≡ 0 → ⊥) → inRange s (pages s) (records s) ≡ wellFormed own s
+unfolding wellFormed
+formed-range own s h no0 = sym (and-t _ _ h ∙ if-f _ _ _ (ne-eqb _ _ no0))
+
+pub ready-malformed : (must own : Bool) (s : Areas) → wellFormed own s ≡ false → Not Malformed ≡ readiness must own s
+unfolding readiness
+ready-malformed must own s h = sym (if-f _ _ _ h)
+
+pub ready-closed : (must own : Bool) (s : Areas) → wellFormed own s ≡ true → not must || eqb (reopening s) 2 ≡ false → Not NotOpen ≡ readiness must own s
+unfolding readiness
+ready-closed must own s h o = sym (if-t _ _ _ h ∙ if-f _ _ _ o)
+
+pub ready-go : (must own : Bool) (s : Areas) → wellFormed own s ≡ true → not must || eqb (reopening s) 2 ≡ true → Go (pages s) ≡ readiness must own s
+unfolding readiness
+ready-go must own s h o = sym (if-t _ _ _ h ∙ if-t _ _ _ o)

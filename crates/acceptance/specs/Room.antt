@@ -1,0 +1,19 @@
+-- Document 01, 'Room', in numbers. Assumes nothing.
+use Prim.Native.Nat.{ℕ, _+_, _≤_}
+use mathlib.Core.Path.{_≡_}
+use mathlib.Core.Bool.{true}
+use borrow.Author.Tests.{leb-true}
+use Rattle.records.specs.Changes.{reserved}
+use Rattle.areas.specs.Areas.{Areas, receivedCount}
+use Rattle.areas.specs.Layout.{activeAt}
+use Rattle.areas.specs.Tables.{at}
+use Rattle.areas.specs.Entry.{records}
+use Rattle.calls.specs.Room.{roomBeyond}
+
+-- 'Begin, create and set need 2 beyond used and reserved, a sweep 1'
+abbrev pub Room : Areas → ℕ → Type 0
+Room s k = receivedCount s + reserved (s .work) (s .log) (receivedCount s) (at (s .work) activeAt) + k ≤ records s
+
+pub room-facts : (s : Areas) (k : ℕ) → roomBeyond s k ≡ true → Room s k
+unfolding roomBeyond
+room-facts s k h = leb-true _ _ h

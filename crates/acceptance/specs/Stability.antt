@@ -1,0 +1,64 @@
+-- Document 01, 'Calls': what an accepted force, store page and empty log know. n is the number of pages. Assumes nothing.
+use Prim.Native.Nat.{ℕ, _+_, _<_, _≤_}
+use mathlib.Core.Path.{_≡_}
+use mathlib.Core.Bool.{Bool, true, _&&_}
+use mathlib.Core.List.{List}
+use lib.ListN.{length, getD, set}
+use lib.Dec.{eqb}
+use borrow.Author.Tests.{ltb-true, leb-true, eqb-true}
+use Rattle.words.specs.Tests.{and-split}
+use Rattle.words.specs.Spans.{same}
+use Rattle.pages.specs.Objects.{copiedPage}
+use Rattle.records.specs.Naming.{lastNaming}
+use Rattle.areas.specs.declared.Check.the-variants.{Pass}
+use Rattle.areas.specs.Answers.{need-passed}
+use Rattle.areas.specs.Areas.{Areas, done, receivedCount, stableCount, withStored, withCounts}
+use Rattle.areas.specs.Layout.{activeAt}
+use Rattle.areas.specs.Tables.{at}
+use Rattle.areas.specs.Entry.{readiness}
+use Rattle.calls.specs.Stability.{forceCheck, callForce, storeCheck, callStore, emptyCheck, emptied, callEmpty}
+use Rattle.acceptance.specs.Ran.{Outcome, outcome-done}
+
+pub record ForceFacts (s : Areas) : Type 0 where
+  pub unstable : stableCount s < receivedCount s
+
+pub force-facts : (s : Areas) → forceCheck s ≡ Pass → ForceFacts s
+unfolding forceCheck
+force-facts s h = record { unstable = ltb-true _ _ (need-passed _ _ _ h .0) }
+
+pub force-outcome : (s : Areas) →
+    Outcome s (readiness true true s) (λ n. forceCheck s) (callForce s) (λ n. done (stableCount s + 1) (withCounts s (set (s .counts) 1 (stableCount s + 1))))
+unfolding callForce
+force-outcome s = outcome-done _ _ _ (λ n. stableCount s + 1) (λ n. withCounts s (set (s .counts) 1 (stableCount s + 1)))
+
+pub record StoreFacts (s : Areas) (n p : ℕ) : Type 0 where
+  pub page : p < n
+  pub stable : getD (lastNaming (s .log) (receivedCount s)) p 0 ≤ stableCount s
+
+pub store-facts : (s : Areas) (n p : ℕ) → storeCheck s n p ≡ Pass → StoreFacts s n p
+unfolding storeCheck
+store-facts s n p h =
+    let h1 = need-passed _ _ _ h in
+    let h2 = need-passed _ _ _ (h1 .1) in
+    record { page = ltb-true _ _ (h1 .0); stable = leb-true _ _ (h2 .0) }
+
+pub store-outcome : (s : Areas) (p : ℕ) →
+    Outcome s (readiness true true s) (λ n. storeCheck s n p) (callStore s p) (λ n. done 0 (withStored s (copiedPage (s .copies) (s .stored) p)))
+unfolding callStore
+store-outcome s p = outcome-done _ _ _ (λ n. 0) (λ n. withStored s (copiedPage (s .copies) (s .stored) p))
+
+pub record EmptyFacts (s : Areas) : Type 0 where
+  pub none-active : at (s .work) activeAt ≡ 0
+  pub all-stable : stableCount s ≡ receivedCount s
+  pub all-stored : same (s .copies) 0 (s .stored) 0 (length (s .stored)) ≡ true
+
+pub empty-facts : (s : Areas) → emptyCheck s ≡ Pass → EmptyFacts s
+unfolding emptyCheck
+empty-facts s h =
+    let b = and-split (eqb (at (s .work) activeAt) 0 && eqb (stableCount s) (receivedCount s)) (same (s .copies) 0 (s .stored) 0 (length (s .stored))) (need-passed _ _ _ h .0) in
+    let a = and-split (eqb (at (s .work) activeAt) 0) (eqb (stableCount s) (receivedCount s)) (b .0) in
+    record { none-active = eqb-true _ _ (a .0); all-stable = eqb-true _ _ (a .1); all-stored = b .1 }
+
+pub empty-outcome : (s : Areas) → Outcome s (readiness true true s) (λ n. emptyCheck s) (callEmpty s) (λ n. done 0 (emptied s))
+unfolding callEmpty
+empty-outcome s = outcome-done _ _ _ (λ n. 0) (λ n. emptied s)

@@ -1,0 +1,119 @@
+-- Document 01, 'Working ranges': what working words in range say, table by table, and of everything that refusal 1 looks at.
+-- Assumes nothing.
+use Prim.Native.Nat.{ℕ, zero, suc, _+_, _*_, _-_, _<_, _≤_}
+use mathlib.Core.Path.{_≡_, refl, sym, ap, _∙_, subst}
+use mathlib.Core.Bool.{Bool, true, false, _&&_}
+use mathlib.Core.List.{List, [], _∷_}
+use lib.ListN.{length, getD}
+use lib.Dec.{leb}
+use native.Mathlib.Omega.{arith}
+use borrow.Author.Tests.{leb-true}
+use Rattle.words.specs.Tests.{all, all-at, all-split, all-same, and-split}
+use Rattle.words.specs.Spans.{upTo}
+use Rattle.pages.specs.Soundness.{areaSound}
+use Rattle.records.specs.Soundness.{recordsSound}
+use Rattle.areas.specs.Areas.{Areas, receivedCount, stableCount}
+use Rattle.areas.specs.Layout.{Row, row, rows, reopeningAt, reopeningPageAt, phaseAt, passPageAt, stepsAt, activeAt, readersAt, writersAt, unflushedAt, knownAt, prunedAt, createdAt, colourAt}
+use Rattle.areas.specs.Tables.{at}
+use Rattle.areas.specs.Ranges.{rowsInRange, workInRange, countsInRange, inRange}
+use Rattle.areas.specs.Entry.{records}
+
+-- a word of a run that is in range
+pub up-to-at : (w : List ℕ) (a n top k : ℕ) → upTo w a n top ≡ true → k < n → at w (a + k) ≤ top
+unfolding upTo
+up-to-at w a n top k h l = leb-true _ _ (all-at (λ j. leb (getD w (a + j) 0) top) n k h l)
+
+pub up-to-within : (w : List ℕ) (a n top i : ℕ) → upTo w a n top ≡ true → a ≤ i → i < a + n → at w i ≤ top
+up-to-within w a n top i h l u = subst (λ (j : ℕ). at w j ≤ top) (omega arith) (up-to-at w a n top (i - a) h (omega arith))
+
+-- two runs that follow one another
+pub up-to-split : (w : List ℕ) (a m k top : ℕ) → upTo w a (m + k) top ≡ upTo w a m top && upTo w (a + m) k top
+unfolding upTo
+up-to-split w a m k top = all-split (λ j. leb (getD w (a + j) 0) top) m k
+    ∙ ap (λ (b : Bool). all (λ j. leb (getD w (a + j) 0) top) m && b)
+    (all-same (λ j. leb (getD w (a + (m + j)) 0) top) (λ j. leb (getD w (a + m + j) 0) top) k
+    (λ j l. ap (λ (i : ℕ). leb (getD w i 0) top) (omega arith)))
+
+-- one field for each row of the layout
+pub record Working (w : List ℕ) (n : ℕ) : Type 0 where
+  pub reopening-word : at w reopeningAt ≤ 2
+  pub reopening-page : at w reopeningPageAt ≤ n
+  pub phase : at w phaseAt ≤ 2
+  pub pass-page : at w passPageAt < n
+  pub steps : at w stepsAt ≤ 17 * n
+  pub active : at w activeAt < 65536
+  pub readers : (p : ℕ) → p < n → at w (readersAt n p) < 65536
+  pub writers : (p : ℕ) → p < n → at w (writersAt n p) < 65536
+  pub unflushed : (p : ℕ) → p < n → at w (unflushedAt n p) < 65536
+  pub known : (o : ℕ) → 1 ≤ o → o ≤ 16 * n → at w (knownAt n o) < 65536
+  pub pruned : (o : ℕ) → 1 ≤ o → o ≤ 16 * n → at w (prunedAt n o) < 131072
+  pub created : (o : ℕ) → 1 ≤ o → o ≤ 16 * n → at w (createdAt n o) < 131072
+  pub colours : (o : ℕ) → 1 ≤ o → o ≤ 16 * n → at w (colourAt n o) ≤ 2
+
+-- a row whose words are in range, and the rows after it
+row-facts : (w : List ℕ) (r : Row) (rs : List Row) → rowsInRange w (r ∷ rs) ≡ true →
+    ((i : ℕ) → r .first ≤ i → i < r .first + r .many → at w i ≤ r .top) × (rowsInRange w rs ≡ true)
+unfolding rowsInRange
+row-facts w r rs h = let p = and-split (upTo w (r .first) (r .many) (r .top)) (rowsInRange w rs) h in
+    (λ i. up-to-within w (r .first) (r .many) (r .top) i (p .0), p .1)
+
+below : (a top : ℕ) → a ≤ top → a < suc top
+below a top h = omega arith
+
+pub in-rows : (w : List ℕ) (n : ℕ) → 1 ≤ n → workInRange w n ≡ true → Working w n
+unfolding workInRange
+in-rows w n low h =
+    let r1 = row-facts w _ _ h in
+    let r2 = row-facts w _ _ (r1 .1) in
+    let r3 = row-facts w _ _ (r2 .1) in
+    let r4 = row-facts w _ _ (r3 .1) in
+    let r5 = row-facts w _ _ (r4 .1) in
+    let r6 = row-facts w _ _ (r5 .1) in
+    let r7 = row-facts w _ _ (r6 .1) in
+    let r8 = row-facts w _ _ (r7 .1) in
+    let r9 = row-facts w _ _ (r8 .1) in
+    let r10 = row-facts w _ _ (r9 .1) in
+    let r11 = row-facts w _ _ (r10 .1) in
+    let r12 = row-facts w _ _ (r11 .1) in
+    let r13 = row-facts w _ _ (r12 .1) in
+    record {
+      reopening-word = r1 .0 reopeningAt (omega arith) (omega arith);
+      reopening-page = r2 .0 reopeningPageAt (omega arith) (omega arith);
+      phase = r3 .0 phaseAt (omega arith) (omega arith);
+      pass-page = (let e = below _ (n - 1) (r4 .0 passPageAt (omega arith) (omega arith)) in omega arith);
+      steps = r5 .0 stepsAt (omega arith) (omega arith);
+      active = below _ 65535 (r6 .0 activeAt (omega arith) (omega arith));
+      readers = λ p l. below _ 65535 (r7 .0 (readersAt n p) (omega arith) (omega arith));
+      writers = λ p l. below _ 65535 (r8 .0 (writersAt n p) (omega arith) (omega arith));
+      unflushed = λ p l. below _ 65535 (r9 .0 (unflushedAt n p) (omega arith) (omega arith));
+      known = λ o a b. below _ 65535 (r10 .0 (knownAt n o) (omega arith) (omega arith));
+      pruned = λ o a b. below _ 131071 (r11 .0 (prunedAt n o) (omega arith) (omega arith));
+      created = λ o a b. below _ 131071 (r12 .0 (createdAt n o) (omega arith) (omega arith));
+      colours = λ o a b. r13 .0 (colourAt n o) (omega arith) (omega arith);
+    }
+
+-- everything that refusal 1 looks at besides the lengths
+pub record Ranged (s : Areas) (n : ℕ) : Type 0 where
+  pub stable-le : stableCount s ≤ receivedCount s
+  pub received-le : receivedCount s ≤ records s
+  pub working : Working (s .work) n
+  pub received-sound : areaSound (s .received) n ≡ true
+  pub copies-sound : areaSound (s .copies) n ≡ true
+  pub records-sound : recordsSound n (s .log) (receivedCount s) ≡ true
+
+pub ranged : (s : Areas) (n : ℕ) → 1 ≤ n → inRange s n (records s) ≡ true → Ranged s n
+unfolding inRange countsInRange
+ranged s n low h =
+    let h4 = and-split _ _ h in
+    let h3 = and-split _ _ (h4 .0) in
+    let h2 = and-split _ _ (h3 .0) in
+    let h1 = and-split _ _ (h2 .0) in
+    let h0 = and-split (leb (receivedCount s) (records s)) (leb (stableCount s) (receivedCount s)) (h1 .0) in
+    record {
+      stable-le = leb-true _ _ (h0 .1);
+      received-le = leb-true _ _ (h0 .0);
+      working = in-rows (s .work) n low (h1 .1);
+      received-sound = h2 .1;
+      copies-sound = h3 .1;
+      records-sound = h4 .1;
+    }
