@@ -8,6 +8,7 @@ use lib.Pow.{shr-shr, pow-pos}
 use native.Mathlib.Nat.{pow-zero, pow-suc, add-comm, div-one}
 use native.Mathlib.Numerals.{add-one}
 use native.Mathlib.Omega.{arith}
+use native.Mathlib.Decide.{ℕ-discrete}
 use borrow.Author.Tests.{eqb-true, eq-eqb, ne-eqb, eqb-false}
 use Rattle.words.specs.Tests.{if, count, by-bool, or-true, or-false, and-true, and-false, count-same, count-shift}
 
@@ -164,3 +165,50 @@ map-lt f (suc n) = let h = map-lt f n in rw (pow-suc 2 n) (by-bool (f n) (λ e. 
 pub map-next : (f : ℕ → Bool) (i : ℕ) → mapOf f i + if (f i) (2 ^ i) 0 ≡ mapOf f (i + 1)
 unfolding mapOf
 map-next f i = ap (mapOf f) (sym (add-one i))
+
+-- words below a power of two are told apart by their bits
+pub bits-same : (k a b : ℕ) → a < 2 ^ k → b < 2 ^ k → ((j : ℕ) → j < k → bit a j ≡ bit b j) → a ≡ b
+bits-same zero a b ha hb h = omega arith
+bits-same (suc k) a b ha hb h =
+    let la : a < 2 ^ k * 2 = rw (← (pow-suc 2 k)) ha in
+    let lb : b < 2 ^ k * 2 = rw (← (pow-suc 2 k)) hb in
+    let high = bits-same k (a / 2) (b / 2) (omega arith) (omega arith) (λ j l. sym (bit-next a j) ∙ h (suc j) (omega arith) ∙ bit-next b j) in
+    let low : a % 2 ≡ b % 2 = same-low (a % 2) (b % 2) (omega arith) (omega arith) (sym (bit-low a) ∙ h 0 (omega arith) ∙ bit-low b) in
+    omega arith
+  where
+    same-low : (x y : ℕ) → x < 2 → y < 2 → eqb x 1 ≡ eqb y 1 → x ≡ y
+    same-low x y hx hy e = by-bool (eqb x 1)
+        (λ p. eqb-true x 1 p ∙ sym (eqb-true y 1 (sym e ∙ p)))
+        (λ p. let px = eqb-false x 1 p in let py = eqb-false y 1 (sym e ∙ p) in omega arith)
+
+-- a word with no bit set is 0
+pub no-bits : (k m : ℕ) → m < 2 ^ k → ((j : ℕ) → j < k → bit m j ≡ false) → m ≡ 0
+no-bits k m h f = bits-same k m 0 h (pow-pos k) (λ j l. f j l ∙ sym (bit-none j))
+
+-- a bit at or above the bound is clear
+pub bit-above : (k m j : ℕ) → m < 2 ^ k → k ≤ j → bit m j ≡ false
+bit-above zero m j h l = let z : m ≡ 0 = omega arith in rw z (bit-none j)
+bit-above (suc k) m zero h l = absurd (omega arith)
+bit-above (suc k) m (suc j) h l = let e : m < 2 ^ k * 2 = rw (← (pow-suc 2 k)) h in bit-next m j ∙ bit-above k (m / 2) j (omega arith) (omega arith)
+
+with-clear : (m k : ℕ) → bit m k ≡ false → withBit m k ≡ m + 2 ^ k
+unfolding withBit
+with-clear m k e = rw e
+
+module _ (f : ℕ → Bool) (n : ℕ) where
+  raised : withBit (mapOf f n) n ≡ mapOf f n + 2 ^ n
+  raised = with-clear (mapOf f n) n (bit-above n (mapOf f n) n (map-lt f n) (omega arith))
+
+  low-part : (j : ℕ) → j < n → (b : Bool) → bit (mapOf f n + if b (2 ^ n) 0) j ≡ bit (mapOf f n) j
+  low-part j l true = rw (← raised) (with-other (mapOf f n) n j (λ z. omega arith))
+  low-part j l false = let e : mapOf f n + 0 ≡ mapOf f n = omega arith in rw e
+
+  top-part : (b : Bool) → bit (mapOf f n + if b (2 ^ n) 0) n ≡ b
+  top-part true = rw (← raised) (with-same (mapOf f n) n)
+  top-part false = let e : mapOf f n + 0 ≡ mapOf f n = omega arith in rw e (bit-above n (mapOf f n) n (map-lt f n) (omega arith))
+
+-- the bits of a map that is made of a test
+pub map-bit : (f : ℕ → Bool) (n j : ℕ) → j < n → bit (mapOf f n) j ≡ f j
+unfolding mapOf
+map-bit f zero j l = absurd (omega arith)
+map-bit f (suc n) j l = elim (ℕ-discrete j n) [ yes q ↦ rw q (top-part f n (f n)) | no q ↦ low-part f n j (omega arith) (f n) ∙ map-bit f n j (omega arith) ]
