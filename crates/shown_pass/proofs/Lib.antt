@@ -4,3 +4,4 @@ pub mod Masks
 pub mod Mark
 pub mod Start
 pub mod Sweep
+pub mod PassFacts

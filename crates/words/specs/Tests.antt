@@ -8,7 +8,7 @@ use native.Mathlib.Numerals.{add-one}
 use native.Mathlib.Nat.{le-of-suc-le-suc, eq-or-lt-of-le}
 use native.Mathlib.Omega.{arith}
 use lib.Dec.{ltb}
-use borrow.Author.Tests.{lt-ltb, le-ltb}
+use borrow.Author.Tests.{lt-ltb, le-ltb, ltb-true, ltb-false}
 
 -- a choice by a test
 abbrev pub if : {A : Type 0} → Bool → A → A → A
@@ -239,3 +239,25 @@ lowest-found f (suc n) i l h e = elim (ℕ-discrete i n) [
   | yes q ↦ (let h′ : lowest f n ≡ n = rw (← q) h in rw (h′, le-ltb n n (omega arith), ← q, e))
   | no q ↦ lowest-keeps f n i (lowest-found f n i (omega arith) h e) (omega arith)
 ]
+
+-- what was found passes, and where nothing was found nothing passes
+pub lowest-passes : (f : ℕ → Bool) (n : ℕ) → lowest f n < n → f (lowest f n) ≡ true
+unfolding lowest
+lowest-passes f zero h = absurd (omega arith)
+lowest-passes f (suc n) h = by-bool (ltb (lowest f n) n)
+    (λ l. rw l (lowest-passes f n (ltb-true (lowest f n) n l)))
+    (λ l. by-bool (f n) (λ e. rw (l, e) e) (λ e. absurd (let k : suc n < suc n = rw (l, e) at h in omega arith)))
+
+pub lowest-le : (f : ℕ → Bool) (n : ℕ) → lowest f n ≤ n
+unfolding lowest
+lowest-le f zero = omega arith
+lowest-le f (suc n) = let k = lowest-le f n in by-bool (ltb (lowest f n) n) (λ l. rw l (omega arith)) (λ l. by-bool (f n) (λ e. rw (l, e) (omega arith)) (λ e. rw (l, e) (omega arith)))
+
+pub lowest-none : (f : ℕ → Bool) (n : ℕ) → n ≤ lowest f n → (i : ℕ) → i < n → f i ≡ false
+unfolding lowest
+lowest-none f zero h i l = absurd (omega arith)
+lowest-none f (suc n) h i l = by-bool (ltb (lowest f n) n)
+    (λ t. absurd (let k : suc n ≤ lowest f n = rw t at h in let m = ltb-true (lowest f n) n t in omega arith))
+    (λ t. by-bool (f n)
+    (λ e. absurd (let k : suc n ≤ n = rw (t, e) at h in omega arith))
+    (λ e. elim (ℕ-discrete i n) [ yes q ↦ rw q e | no q ↦ lowest-none f n (ltb-false (lowest f n) n t) i (omega arith) ]))
