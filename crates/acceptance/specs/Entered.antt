@@ -1,15 +1,12 @@
 -- Document 01, refusals 1 and 2: what a call that they do not stop knows of the areas, and how they are computed. Assumes nothing.
-use Prim.Native.Nat.{ℕ, _+_, _*_, _<_, _≤_}
+use Prim.Native.Nat.{ℕ}
 use mathlib.Core.Path.{_≡_, refl, sym, ap, _∙_}
 use mathlib.Core.Bool.{Bool, true, false, not, _&&_, _||_}
-use lib.ListN.{length}
 use lib.Dec.{eqb}
 use native.Mathlib.Omega.{arith}
 use borrow.Author.Tests.{eqb-true, eq-eqb, ne-eqb}
 use Rattle.words.specs.Tests.{if, if-t, if-f, and-split, and-t, and-f, clash}
-use Rattle.areas.specs.declared.Refusal.{Refusal}
 use Rattle.areas.specs.declared.Refusal.the-variants.{Malformed, NotOpen}
-use Rattle.areas.specs.declared.Ready.{Ready}
 use Rattle.areas.specs.declared.Ready.the-variants.{Go, Not}
 use Rattle.areas.specs.Areas.{Areas}
 use Rattle.areas.specs.Ranges.{fit, inRange}
@@ -79,28 +76,38 @@ opened own s n h =
     let two = e .finished refl in
     record { sized = e .sized; finished = two; ranged = e .ranged (λ z. omega arith) }
 
--- how the tests give the answer, as the code finds it
+-- how the tests give the answer, as the code finds it: f is its answer on the lengths
 
-pub formed-unfit : (own : Bool) (s : Areas) → own && fit s ≡ false → false ≡ wellFormed own s
+pub formed-unfit : (own : Bool) (s : Areas) {f : Bool} → f ≡ fit s → own && f ≡ false → false ≡ wellFormed own s
 unfolding wellFormed
-formed-unfit own s h = sym (and-f _ _ h)
+formed-unfit own s e h = sym (and-f _ _ (rw e at h))
 
-pub formed-zero : (own : Bool) (s : Areas) → own && fit s ≡ true → reopening s ≡ 0 → true ≡ wellFormed own s
+pub formed-zero : (own : Bool) (s : Areas) {f : Bool} → f ≡ fit s → own && f ≡ true → reopening s ≡ 0 → true ≡ wellFormed own s
 unfolding wellFormed
-formed-zero own s h e = sym (and-t _ _ h ∙ if-t _ _ _ (eq-eqb _ _ e))
+formed-zero own s e h z = sym (and-t _ _ (rw e at h) ∙ if-t _ _ _ (eq-eqb _ _ z))
 
-pub formed-range : (own : Bool) (s : Areas) → own && fit s ≡ true → (reopening s ≡ 0 → ⊥) → inRange s (pages s) (records s) ≡ wellFormed own s
+pub formed-range : (own : Bool) (s : Areas) {f : Bool} → f ≡ fit s → own && f ≡ true → (reopening s ≡ 0 → ⊥) →
+    inRange s (pages s) (records s) ≡ wellFormed own s
 unfolding wellFormed
-formed-range own s h no0 = sym (and-t _ _ h ∙ if-f _ _ _ (ne-eqb _ _ no0))
+formed-range own s e h no0 = sym (and-t _ _ (rw e at h) ∙ if-f _ _ _ (ne-eqb _ _ no0))
+
+pub formed-sized : (own : Bool) (s : Areas) → wellFormed own s ≡ true → Sized s (pages s)
+formed-sized own s h = sized s (pages s) (formed own s h .lengths) refl
 
 pub ready-malformed : (must own : Bool) (s : Areas) → wellFormed own s ≡ false → Not Malformed ≡ readiness must own s
 unfolding readiness
 ready-malformed must own s h = sym (if-f _ _ _ h)
 
-pub ready-closed : (must own : Bool) (s : Areas) → wellFormed own s ≡ true → not must || eqb (reopening s) 2 ≡ false → Not NotOpen ≡ readiness must own s
-unfolding readiness
-ready-closed must own s h o = sym (if-t _ _ _ h ∙ if-f _ _ _ o)
+-- 'reopening not finished' where it has to be
+unfinished : (must done : Bool) → not must || done ≡ not (must && not done)
+unfinished true true = refl
+unfinished true false = refl
+unfinished false done = refl
 
-pub ready-go : (must own : Bool) (s : Areas) → wellFormed own s ≡ true → not must || eqb (reopening s) 2 ≡ true → Go (pages s) ≡ readiness must own s
+pub ready-closed : (must own : Bool) (s : Areas) → wellFormed own s ≡ true → must && not (eqb (reopening s) 2) ≡ true → Not NotOpen ≡ readiness must own s
 unfolding readiness
-ready-go must own s h o = sym (if-t _ _ _ h ∙ if-t _ _ _ o)
+ready-closed must own s h o = sym (if-t _ _ _ h ∙ if-f _ _ _ (unfinished must (eqb (reopening s) 2) ∙ ap not o))
+
+pub ready-go : (must own : Bool) (s : Areas) → wellFormed own s ≡ true → must && not (eqb (reopening s) 2) ≡ false → Go (pages s) ≡ readiness must own s
+unfolding readiness
+ready-go must own s h o = sym (if-t _ _ _ h ∙ if-t _ _ _ (unfinished must (eqb (reopening s) 2) ∙ ap not o))

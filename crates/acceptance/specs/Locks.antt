@@ -1,17 +1,17 @@
 -- Document 01, 'Calls': what an accepted lock for reading or writing knows. n is the number of pages. Assumes nothing.
 use Prim.Native.Nat.{ℕ, _<_}
 use mathlib.Core.Path.{_≡_}
-use mathlib.Core.Bool.{Bool, true}
+use mathlib.Core.Bool.{true}
 use borrow.Author.Tests.{ltb-true, eqb-true}
 use Rattle.words.specs.Tests.{and-split}
 use Rattle.words.specs.Bits.{withoutBit}
 use Rattle.areas.specs.declared.Check.the-variants.{Pass}
-use Rattle.areas.specs.Answers.{need-passed}
 use Rattle.areas.specs.Areas.{Areas, done, withWork}
 use Rattle.areas.specs.Layout.{readersAt, writersAt}
 use Rattle.areas.specs.Tables.{at, isActive}
 use Rattle.areas.specs.Entry.{readiness}
 use Rattle.calls.specs.Locks.{lockReadCheck, readLocked, callLockRead, lockWriteCheck, writeLocked, callLockWrite}
+use Rattle.acceptance.specs.Needs.{passed-3}
 use Rattle.acceptance.specs.Ran.{Outcome, outcome-done}
 
 -- nobody but t writes the page
@@ -24,11 +24,9 @@ pub record LockReadFacts (s : Areas) (n t p : ℕ) : Type 0 where
 pub lock-read-facts : (s : Areas) (n t p : ℕ) → lockReadCheck s n t p ≡ Pass → LockReadFacts s n t p
 unfolding lockReadCheck
 lock-read-facts s n t p h =
-    let h1 = need-passed _ _ _ h in
-    let h2 = need-passed _ _ _ (h1 .1) in
-    let h3 = need-passed _ _ _ (h2 .1) in
-    let r = and-split _ _ (h1 .0) in
-    record { txn = ltb-true _ _ (r .0); page = ltb-true _ _ (r .1); active = h2 .0; no-writer = eqb-true _ _ (h3 .0) }
+    let held = passed-3 _ _ _ _ _ _ h in
+    let r = and-split _ _ (held .0) in
+    record { txn = ltb-true _ _ (r .0); page = ltb-true _ _ (r .1); active = held .1; no-writer = eqb-true _ _ (held .2) }
 
 pub lock-read-outcome : (s : Areas) (t p : ℕ) →
     Outcome s (readiness true true s) (λ n. lockReadCheck s n t p) (callLockRead s t p) (λ n. done 0 (withWork s (readLocked (s .work) n t p)))
@@ -46,15 +44,13 @@ pub record LockWriteFacts (s : Areas) (n t p : ℕ) : Type 0 where
 pub lock-write-facts : (s : Areas) (n t p : ℕ) → lockWriteCheck s n t p ≡ Pass → LockWriteFacts s n t p
 unfolding lockWriteCheck
 lock-write-facts s n t p h =
-    let h1 = need-passed _ _ _ h in
-    let h2 = need-passed _ _ _ (h1 .1) in
-    let h3 = need-passed _ _ _ (h2 .1) in
-    let r = and-split _ _ (h1 .0) in
-    let o = and-split _ _ (h3 .0) in
+    let held = passed-3 _ _ _ _ _ _ h in
+    let r = and-split _ _ (held .0) in
+    let o = and-split _ _ (held .2) in
     record {
       txn = ltb-true _ _ (r .0);
       page = ltb-true _ _ (r .1);
-      active = h2 .0;
+      active = held .1;
       no-reader = eqb-true _ _ (o .0);
       no-writer = eqb-true _ _ (o .1);
     }

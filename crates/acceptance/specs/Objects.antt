@@ -1,5 +1,5 @@
 -- Document 01, 'Calls': what an accepted read, create, set and flush know. n is the number of pages. Assumes nothing.
-use Prim.Native.Nat.{ℕ, _+_, _*_, _<_, _≤_}
+use Prim.Native.Nat.{ℕ, _*_, _<_, _≤_}
 use mathlib.Core.Path.{_≡_, refl}
 use mathlib.Core.Bool.{Bool, true, false, not, _&&_, _||_}
 use mathlib.Core.Logic.{_⊎_, inl, inr}
@@ -12,13 +12,13 @@ use Rattle.words.specs.Tests.{if, and-split, or-cases, clash}
 use Rattle.pages.specs.Geometry.{pageWords, pageOf, isObject, isRef}
 use Rattle.pages.specs.Objects.{occupied, wordOf}
 use Rattle.areas.specs.declared.Check.the-variants.{Pass}
-use Rattle.areas.specs.Answers.{need-passed}
 use Rattle.areas.specs.Areas.{Areas, done, receivedCount, withWork}
 use Rattle.areas.specs.Layout.{knownAt}
 use Rattle.areas.specs.Tables.{has, isTxn, isActive, canRead, canWrite, knows}
 use Rattle.areas.specs.Entry.{readiness}
 use Rattle.calls.specs.Objects.{readCheck, learned, callRead, createCheck, created, callCreate, mayWrite, setCheck, wordSet, callSet, agrees, flushCheck, flushed, callFlush}
 use Rattle.acceptance.specs.Room.{Room, room-facts}
+use Rattle.acceptance.specs.Needs.{passed-4, passed-5}
 use Rattle.acceptance.specs.Ran.{Outcome, outcome-done}
 
 -- an object of the store, and its page
@@ -56,12 +56,9 @@ pub record ReadFacts (s : Areas) (n t o : ℕ) : Type 0 where
 pub read-facts : (s : Areas) (n t o : ℕ) → readCheck s n t o ≡ Pass → ReadFacts s n t o
 unfolding readCheck
 read-facts s n t o h =
-    let h1 = need-passed _ _ _ h in
-    let h2 = need-passed _ _ _ (h1 .1) in
-    let h3 = need-passed _ _ _ (h2 .1) in
-    let h4 = need-passed _ _ _ (h3 .1) in
-    let r = and-split (isTxn t) (isObject n o) (h1 .0) in
-    record { txn = ltb-true _ _ (r .0); object = object-facts n o (r .1); active = h2 .0; lock = h3 .0; known = h4 .0 }
+    let held = passed-4 _ _ _ _ _ _ _ _ h in
+    let r = and-split (isTxn t) (isObject n o) (held .0) in
+    record { txn = ltb-true _ _ (r .0); object = object-facts n o (r .1); active = held .1; lock = held .2; known = held .3 }
 
 pub read-outcome : (s : Areas) (t o : ℕ) (buffer : List ℕ) →
     Outcome s (readiness true (eqb (length buffer) 8) s) (λ n. readCheck s n t o) (callRead s t o buffer)
@@ -80,19 +77,15 @@ pub record CreateFacts (s : Areas) (n t o : ℕ) : Type 0 where
 pub create-facts : (s : Areas) (n t o : ℕ) → createCheck s n t o ≡ Pass → CreateFacts s n t o
 unfolding createCheck
 create-facts s n t o h =
-    let h1 = need-passed _ _ _ h in
-    let h2 = need-passed _ _ _ (h1 .1) in
-    let h3 = need-passed _ _ _ (h2 .1) in
-    let h4 = need-passed _ _ _ (h3 .1) in
-    let h5 = need-passed _ _ _ (h4 .1) in
-    let r = and-split (isTxn t) (isObject n o) (h1 .0) in
+    let held = passed-5 _ _ _ _ _ _ _ _ _ _ h in
+    let r = and-split (isTxn t) (isObject n o) (held .0) in
     record {
       txn = ltb-true _ _ (r .0);
       object = object-facts n o (r .1);
-      active = h2 .0;
-      lock = h3 .0;
-      free = not-true _ (h4 .0);
-      room = room-facts s 2 (h5 .0);
+      active = held .1;
+      lock = held .2;
+      free = not-true _ (held .3);
+      room = room-facts s 2 (held .4);
     }
 
 pub create-outcome : (s : Areas) (t o : ℕ) →
@@ -118,23 +111,19 @@ may-cases false v known h e = clash e refl
 pub set-facts : (s : Areas) (n t o f v : ℕ) → setCheck s n t o f v ≡ Pass → SetFacts s n t o f v
 unfolding setCheck
 set-facts s n t o f v h =
-    let h1 = need-passed _ _ _ h in
-    let h2 = need-passed _ _ _ (h1 .1) in
-    let h3 = need-passed _ _ _ (h2 .1) in
-    let h4 = need-passed _ _ _ (h3 .1) in
-    let h5 = need-passed _ _ _ (h4 .1) in
-    let r = and-split (isTxn t && isObject n o) (ltb f 8) (h1 .0) in
+    let held = passed-5 _ _ _ _ _ _ _ _ _ _ h in
+    let r = and-split (isTxn t && isObject n o) (ltb f 8) (held .0) in
     let q = and-split (isTxn t) (isObject n o) (r .0) in
-    let k = and-split (knows (s .work) n t o) (mayWrite s n t o f v) (h4 .0) in
+    let k = and-split (knows (s .work) n t o) (mayWrite s n t o f v) (held .3) in
     record {
       txn = ltb-true _ _ (q .0);
       object = object-facts n o (q .1);
       field = ltb-true _ _ (r .1);
-      active = h2 .0;
-      lock = h3 .0;
+      active = held .1;
+      lock = held .2;
       known = k .0;
       may = may-cases (isRef (s .received) o f) v (knows (s .work) n t v) (k .1);
-      room = room-facts s 2 (h5 .0);
+      room = room-facts s 2 (held .4);
     }
 
 pub set-outcome : (s : Areas) (t o f v : ℕ) →
@@ -152,12 +141,9 @@ pub record FlushFacts (s : Areas) (n t p : ℕ) (image : List ℕ) : Type 0 wher
 pub flush-facts : (s : Areas) (n t p : ℕ) (image : List ℕ) → flushCheck s n t p image ≡ Pass → FlushFacts s n t p image
 unfolding flushCheck
 flush-facts s n t p image h =
-    let h1 = need-passed _ _ _ h in
-    let h2 = need-passed _ _ _ (h1 .1) in
-    let h3 = need-passed _ _ _ (h2 .1) in
-    let h4 = need-passed _ _ _ (h3 .1) in
-    let r = and-split _ _ (h1 .0) in
-    record { txn = ltb-true _ _ (r .0); page = ltb-true _ _ (r .1); active = h2 .0; lock = h3 .0; agree = h4 .0 }
+    let held = passed-4 _ _ _ _ _ _ _ _ h in
+    let r = and-split _ _ (held .0) in
+    record { txn = ltb-true _ _ (r .0); page = ltb-true _ _ (r .1); active = held .1; lock = held .2; agree = held .3 }
 
 pub flush-outcome : (s : Areas) (t p : ℕ) (image : List ℕ) →
     Outcome s (readiness true (eqb (length image) pageWords) s) (λ n. flushCheck s n t p image) (callFlush s t p image) (λ n. done 0 (flushed s n t p))

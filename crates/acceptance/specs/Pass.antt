@@ -1,17 +1,17 @@
 -- Document 01, 'The pass': what an accepted pass and pass step know. n is the number of pages. Assumes nothing.
-use Prim.Native.Nat.{ℕ, _*_, _≤_}
+use Prim.Native.Nat.{ℕ, _*_}
 use mathlib.Core.Path.{_≡_, refl, sym, ap, _∙_}
-use mathlib.Core.Bool.{Bool, true, false, not, _||_}
+use mathlib.Core.Bool.{Bool, true, false}
 use mathlib.Core.Logic.{_⊎_, inl, inr}
 use lib.Dec.{leb, eqb}
-use borrow.Author.Tests.{eqb-true, eqb-false, le-leb, lt-leb, not-true, not-false}
+use borrow.Author.Tests.{eqb-true, eqb-false, not-true, not-false}
 use Rattle.words.specs.Tests.{if, if-t, if-f, by-bool, or-cases, clash}
 use Rattle.words.specs.Bits.{slotsSet}
 use Rattle.areas.specs.declared.Check.the-variants.{Pass}
 use Rattle.areas.specs.Answers.{accepted, need-passed}
 use Rattle.areas.specs.Areas.{Areas, Out, done, withWork}
 use Rattle.areas.specs.Layout.{phaseAt, passPageAt}
-use Rattle.areas.specs.Tables.{at, passRuns, isMarking, passFirst, withPass, stepsNext}
+use Rattle.areas.specs.Tables.{at, isMarking, passFirst, withPass, stepsNext}
 use Rattle.areas.specs.Entry.{readiness}
 use Rattle.calls.specs.Room.{roomBeyond}
 use Rattle.calls.specs.Pass.{passCheck, passStarted, callPass, lowestGrey, scanned, marked, freedMap, advanced, sweepCheck, sweptPage, swept, stepCheck, callStep}

@@ -1,13 +1,10 @@
 -- What an accepted call went through, and that a refused one changes nothing, of calls in general. Assumes nothing.
 use Prim.Native.Nat.{ℕ}
 use mathlib.Core.Path.{_≡_, refl}
-use mathlib.Core.Bool.{Bool, true, false}
+use mathlib.Core.Bool.{true, false}
 use Rattle.words.specs.Tests.{clash}
-use Rattle.areas.specs.declared.Refusal.{Refusal}
 use Rattle.areas.specs.declared.Ready.{Ready}
 use Rattle.areas.specs.declared.Ready.the-variants.{Go, Not}
-use Rattle.areas.specs.declared.Answer.{Answer}
-use Rattle.areas.specs.declared.Answer.the-variants.{Done, Refused}
 use Rattle.areas.specs.declared.Check.{Check}
 use Rattle.areas.specs.declared.Check.the-variants.{Pass, Refuse}
 use Rattle.areas.specs.Answers.{accepted}

@@ -1,7 +1,7 @@
 -- Document 01, 'Reopening' and formatting: what an accepted reopen, reopening step and format know. Assumes nothing.
 use Prim.Native.Nat.{ℕ, _≤_}
 use mathlib.Core.Path.{_≡_, refl}
-use mathlib.Core.Bool.{Bool, true, false, _&&_}
+use mathlib.Core.Bool.{true, false}
 use mathlib.Core.List.{List}
 use lib.Dec.{leb, ltb}
 use borrow.Author.Tests.{leb-true, eqb-true}
@@ -13,7 +13,7 @@ use Rattle.areas.specs.declared.Check.{Check}
 use Rattle.areas.specs.declared.Check.the-variants.{Pass}
 use Rattle.areas.specs.declared.Refusal.the-variants.{Malformed}
 use Rattle.areas.specs.Answers.{accepted, need, need-passed}
-use Rattle.areas.specs.Areas.{Areas, Out, done, stableCount}
+use Rattle.areas.specs.Areas.{Areas, done, stableCount}
 use Rattle.areas.specs.Layout.{reopeningPageAt}
 use Rattle.areas.specs.Tables.{at}
 use Rattle.areas.specs.Ranges.{fit}
@@ -21,6 +21,7 @@ use Rattle.areas.specs.Entry.{pages, records, reopening, readiness}
 use Rattle.calls.specs.Formatting.{formatted, callFormat}
 use Rattle.calls.specs.Reopening.{reopenCheck, reopened, callReopen, restepCheck, pageStored, reopeningOver, callRestep}
 use Rattle.acceptance.specs.Lengths.{Sized, sized}
+use Rattle.acceptance.specs.Needs.{passed-2}
 use Rattle.acceptance.specs.Ran.{Passed, Outcome, outcome-done, Keeps, done-keeps, checked-ran, checked-keeps}
 
 -- stored pages and stable records that are sound, and give sound pages
@@ -44,10 +45,9 @@ pub record ReopenFacts (s : Areas) : Type 0 where
 pub reopen-facts : (s : Areas) → reopenCheck s ≡ Pass → ReopenFacts s
 unfolding reopenCheck
 reopen-facts s h =
-    let h1 = need-passed (fit s) _ _ h in
-    let h2 = need-passed _ _ _ (h1 .1) in
-    let r = and-split (leb (stableCount s) (records s)) (recoverable (pages s) (s .stored) (s .log) (stableCount s)) (h2 .0) in
-    record { sized = sized s (pages s) (h1 .0) refl; stable-le = leb-true _ _ (r .0); recovers = r .1 }
+    let held = passed-2 _ _ _ _ h in
+    let r = and-split (leb (stableCount s) (records s)) (recoverable (pages s) (s .stored) (s .log) (stableCount s)) (held .1) in
+    record { sized = sized s (pages s) (held .0) refl; stable-le = leb-true _ _ (r .0); recovers = r .1 }
 
 pub reopen-ran : (s : Areas) → accepted (callReopen s .answer) ≡ true → Passed (reopenCheck s) (callReopen s) (done 0 (reopened s))
 unfolding callReopen

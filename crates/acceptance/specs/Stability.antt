@@ -1,8 +1,7 @@
 -- Document 01, 'Calls': what an accepted force, store page and empty log know. n is the number of pages. Assumes nothing.
 use Prim.Native.Nat.{ℕ, _+_, _<_, _≤_}
 use mathlib.Core.Path.{_≡_}
-use mathlib.Core.Bool.{Bool, true, _&&_}
-use mathlib.Core.List.{List}
+use mathlib.Core.Bool.{true, _&&_}
 use lib.ListN.{length, getD, set}
 use lib.Dec.{eqb}
 use borrow.Author.Tests.{ltb-true, leb-true, eqb-true}
@@ -17,6 +16,7 @@ use Rattle.areas.specs.Layout.{activeAt}
 use Rattle.areas.specs.Tables.{at}
 use Rattle.areas.specs.Entry.{readiness}
 use Rattle.calls.specs.Stability.{forceCheck, callForce, storeCheck, callStore, emptyCheck, emptied, callEmpty}
+use Rattle.acceptance.specs.Needs.{passed-2}
 use Rattle.acceptance.specs.Ran.{Outcome, outcome-done}
 
 pub record ForceFacts (s : Areas) : Type 0 where
@@ -38,9 +38,8 @@ pub record StoreFacts (s : Areas) (n p : ℕ) : Type 0 where
 pub store-facts : (s : Areas) (n p : ℕ) → storeCheck s n p ≡ Pass → StoreFacts s n p
 unfolding storeCheck
 store-facts s n p h =
-    let h1 = need-passed _ _ _ h in
-    let h2 = need-passed _ _ _ (h1 .1) in
-    record { page = ltb-true _ _ (h1 .0); stable = leb-true _ _ (h2 .0) }
+    let held = passed-2 _ _ _ _ h in
+    record { page = ltb-true _ _ (held .0); stable = leb-true _ _ (held .1) }
 
 pub store-outcome : (s : Areas) (p : ℕ) →
     Outcome s (readiness true true s) (λ n. storeCheck s n p) (callStore s p) (λ n. done 0 (withStored s (copiedPage (s .copies) (s .stored) p)))

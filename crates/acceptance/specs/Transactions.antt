@@ -1,19 +1,19 @@
 -- Document 01, 'Calls': what an accepted begin, commit and abort know. n is the number of pages. Assumes nothing.
 use Prim.Native.Nat.{ℕ, _+_, _<_, _≤_}
 use mathlib.Core.Path.{_≡_}
-use mathlib.Core.Bool.{Bool, true, false, not}
+use mathlib.Core.Bool.{true, false, not}
 use mathlib.Core.List.{List}
 use lib.ListN.{length}
 use borrow.Author.Tests.{ltb-true, leb-true, not-true}
 use Rattle.words.specs.Tests.{all-at}
 use Rattle.areas.specs.declared.Check.the-variants.{Pass}
-use Rattle.areas.specs.Answers.{need-passed}
 use Rattle.areas.specs.Areas.{Areas, done, receivedCount}
 use Rattle.areas.specs.Layout.{unflushedAt}
 use Rattle.areas.specs.Tables.{has, isActive}
 use Rattle.areas.specs.Entry.{records, readiness}
 use Rattle.calls.specs.Transactions.{allFlushed, changesOf, beginCheck, begun, callBegin, commitCheck, committed, callCommit, abortCheck, aborted, callAbort}
 use Rattle.acceptance.specs.Room.{Room, room-facts}
+use Rattle.acceptance.specs.Needs.{passed-3, passed-4}
 use Rattle.acceptance.specs.Ran.{Outcome, outcome-done}
 
 pub record BeginFacts (s : Areas) (t : ℕ) : Type 0 where
@@ -24,10 +24,8 @@ pub record BeginFacts (s : Areas) (t : ℕ) : Type 0 where
 pub begin-facts : (s : Areas) (t : ℕ) → beginCheck s t ≡ Pass → BeginFacts s t
 unfolding beginCheck
 begin-facts s t h =
-    let h1 = need-passed _ _ _ h in
-    let h2 = need-passed _ _ _ (h1 .1) in
-    let h3 = need-passed _ _ _ (h2 .1) in
-    record { txn = ltb-true _ _ (h1 .0); inactive = not-true _ (h2 .0); room = room-facts s 2 (h3 .0) }
+    let held = passed-3 _ _ _ _ _ _ h in
+    record { txn = ltb-true _ _ (held .0); inactive = not-true _ (held .1); room = room-facts s 2 (held .2) }
 
 pub begin-outcome : (s : Areas) (t : ℕ) →
     Outcome s (readiness true true s) (λ n. beginCheck s t) (callBegin s t) (λ n. done (receivedCount (begun s n t)) (begun s n t))
@@ -47,11 +45,8 @@ all-flushed w n t p h l = not-true _ (all-at (λ q. not (has w (unflushedAt n q)
 pub commit-facts : (s : Areas) (n t : ℕ) → commitCheck s n t ≡ Pass → CommitFacts s n t
 unfolding commitCheck
 commit-facts s n t h =
-    let h1 = need-passed _ _ _ h in
-    let h2 = need-passed _ _ _ (h1 .1) in
-    let h3 = need-passed _ _ _ (h2 .1) in
-    let h4 = need-passed _ _ _ (h3 .1) in
-    record { txn = ltb-true _ _ (h1 .0); active = h2 .0; flushed = λ p. all-flushed (s .work) n t p (h3 .0); room = leb-true _ _ (h4 .0) }
+    let held = passed-4 _ _ _ _ _ _ _ _ h in
+    record { txn = ltb-true _ _ (held .0); active = held .1; flushed = λ p. all-flushed (s .work) n t p (held .2); room = leb-true _ _ (held .3) }
 
 pub commit-outcome : (s : Areas) (t : ℕ) →
     Outcome s (readiness true true s) (λ n. commitCheck s n t) (callCommit s t) (λ n. done (receivedCount (committed s n t)) (committed s n t))
@@ -66,10 +61,8 @@ pub record AbortFacts (s : Areas) (t : ℕ) : Type 0 where
 pub abort-facts : (s : Areas) (t : ℕ) → abortCheck s t ≡ Pass → AbortFacts s t
 unfolding abortCheck
 abort-facts s t h =
-    let h1 = need-passed _ _ _ h in
-    let h2 = need-passed _ _ _ (h1 .1) in
-    let h3 = need-passed _ _ _ (h2 .1) in
-    record { txn = ltb-true _ _ (h1 .0); active = h2 .0; room = leb-true _ _ (h3 .0) }
+    let held = passed-3 _ _ _ _ _ _ h in
+    record { txn = ltb-true _ _ (held .0); active = held .1; room = leb-true _ _ (held .2) }
 
 pub abort-outcome : (s : Areas) (t : ℕ) →
     Outcome s (readiness true true s) (λ n. abortCheck s t) (callAbort s t) (λ n. done (receivedCount (aborted s n t)) (aborted s n t))

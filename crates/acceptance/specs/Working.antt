@@ -1,19 +1,19 @@
 -- Document 01, 'Working ranges': what working words in range say, table by table, and of everything that refusal 1 looks at.
 -- Assumes nothing.
-use Prim.Native.Nat.{ℕ, zero, suc, _+_, _*_, _-_, _<_, _≤_}
-use mathlib.Core.Path.{_≡_, refl, sym, ap, _∙_, subst}
-use mathlib.Core.Bool.{Bool, true, false, _&&_}
-use mathlib.Core.List.{List, [], _∷_}
-use lib.ListN.{length, getD}
+use Prim.Native.Nat.{ℕ, suc, _+_, _*_, _-_, _<_, _≤_}
+use mathlib.Core.Path.{_≡_, subst}
+use mathlib.Core.Bool.{true}
+use mathlib.Core.List.{List, _∷_}
+use lib.ListN.{getD}
 use lib.Dec.{leb}
 use native.Mathlib.Omega.{arith}
 use borrow.Author.Tests.{leb-true}
-use Rattle.words.specs.Tests.{all, all-at, all-split, all-same, and-split}
+use Rattle.words.specs.Tests.{all-at, and-split}
 use Rattle.words.specs.Spans.{upTo}
 use Rattle.pages.specs.Soundness.{areaSound}
 use Rattle.records.specs.Soundness.{recordsSound}
 use Rattle.areas.specs.Areas.{Areas, receivedCount, stableCount}
-use Rattle.areas.specs.Layout.{Row, row, rows, reopeningAt, reopeningPageAt, phaseAt, passPageAt, stepsAt, activeAt, readersAt, writersAt, unflushedAt, knownAt, prunedAt, createdAt, colourAt}
+use Rattle.areas.specs.Layout.{Row, reopeningAt, reopeningPageAt, phaseAt, passPageAt, stepsAt, activeAt, readersAt, writersAt, unflushedAt, knownAt, prunedAt, createdAt, colourAt}
 use Rattle.areas.specs.Tables.{at}
 use Rattle.areas.specs.Ranges.{rowsInRange, workInRange, countsInRange, inRange}
 use Rattle.areas.specs.Entry.{records}
@@ -25,14 +25,6 @@ up-to-at w a n top k h l = leb-true _ _ (all-at (λ j. leb (getD w (a + j) 0) to
 
 pub up-to-within : (w : List ℕ) (a n top i : ℕ) → upTo w a n top ≡ true → a ≤ i → i < a + n → at w i ≤ top
 up-to-within w a n top i h l u = subst (λ (j : ℕ). at w j ≤ top) (omega arith) (up-to-at w a n top (i - a) h (omega arith))
-
--- two runs that follow one another
-pub up-to-split : (w : List ℕ) (a m k top : ℕ) → upTo w a (m + k) top ≡ upTo w a m top && upTo w (a + m) k top
-unfolding upTo
-up-to-split w a m k top = all-split (λ j. leb (getD w (a + j) 0) top) m k
-    ∙ ap (λ (b : Bool). all (λ j. leb (getD w (a + j) 0) top) m && b)
-    (all-same (λ j. leb (getD w (a + (m + j)) 0) top) (λ j. leb (getD w (a + m + j) 0) top) k
-    (λ j l. ap (λ (i : ℕ). leb (getD w i 0) top) (omega arith)))
 
 -- one field for each row of the layout
 pub record Working (w : List ℕ) (n : ℕ) : Type 0 where
@@ -92,6 +84,11 @@ in-rows w n low h =
       colours = λ o a b. r13 .0 (colourAt n o) (omega arith) (omega arith);
     }
 
+-- the counts, for a log of l records
+pub counts-facts : (k : List ℕ) (l : ℕ) → countsInRange k l ≡ true → (getD k 1 0 ≤ getD k 0 0) × (getD k 0 0 ≤ l)
+unfolding countsInRange
+counts-facts k l h = let p = and-split _ _ h in (leb-true _ _ (p .1), leb-true _ _ (p .0))
+
 -- everything that refusal 1 looks at besides the lengths
 pub record Ranged (s : Areas) (n : ℕ) : Type 0 where
   pub stable-le : stableCount s ≤ receivedCount s
@@ -102,16 +99,16 @@ pub record Ranged (s : Areas) (n : ℕ) : Type 0 where
   pub records-sound : recordsSound n (s .log) (receivedCount s) ≡ true
 
 pub ranged : (s : Areas) (n : ℕ) → 1 ≤ n → inRange s n (records s) ≡ true → Ranged s n
-unfolding inRange countsInRange
+unfolding inRange
 ranged s n low h =
     let h4 = and-split _ _ h in
     let h3 = and-split _ _ (h4 .0) in
     let h2 = and-split _ _ (h3 .0) in
     let h1 = and-split _ _ (h2 .0) in
-    let h0 = and-split (leb (receivedCount s) (records s)) (leb (stableCount s) (receivedCount s)) (h1 .0) in
+    let k = counts-facts (s .counts) (records s) (h1 .0) in
     record {
-      stable-le = leb-true _ _ (h0 .1);
-      received-le = leb-true _ _ (h0 .0);
+      stable-le = k .0;
+      received-le = k .1;
       working = in-rows (s .work) n low (h1 .1);
       received-sound = h2 .1;
       copies-sound = h3 .1;

@@ -1,0 +1,135 @@
+-- Objects after the lines that pass a test: which lines and tests matter to an object, and that the pages show it so. Assumes nothing.
+use Prim.Native.Nat.{ℕ, suc, _*_, _≤_}
+use native.Mathlib.Omega.{arith}
+use native.Mathlib.Decide.{decLt}
+use mathlib.Core.Path.{_≡_, refl, sym, ap, _∙_}
+use mathlib.Core.Bool.{Bool, true, false, _&&_, _||_}
+use mathlib.Core.List.{List, [], _∷_}
+use lib.ListN.{length, getD, replicate, length-replicate, getD-replicate, List·getD-eq-default}
+use lib.Dec.{eqb, ltb}
+use Rattle.words.specs.Tests.{by-bool, clash, or-false-r}
+use Rattle.words.specs.Bits.{bit, bit-none}
+use Rattle.pages.specs.Geometry.{pageOf, slotOf, pageAt, slotAt}
+use Rattle.pages.specs.Objects.{formattedPages}
+use Rattle.records.specs.declared.Record.{Record}
+use Rattle.records.specs.Soundness.{recordSound}
+use Rattle.collector.specs.Objects.{blank}
+use Rattle.views.specs.View.{view, names, applied}
+use Rattle.views.proofs.Effects.{obj-ext, view-by, occupy-view}
+use Rattle.views.proofs.Slots.{length-taken}
+use Rattle.views.proofs.Records.{effect-view, length-effect}
+use Rattle.book.specs.Lines.{Line, isLeft, filtered, pagesAfter}
+use Rattle.book.specs.Pointers.{sweeps, makesOrFrees}
+use Rattle.book_laws.specs.Seen.{touches, tagged, Seen, first, acted, seen}
+use Rattle.book_laws.specs.Striking.{strike, struckAll}
+use Rattle.book_laws.specs.Keeping.{In, here, later}
+
+-- what a test that fails says of its parts: kinds 2, 3, 6, the object, a sweep
+record Parts (two three six o s : Bool) : Type 0 where
+  creates : (two && o) ≡ false
+  sets : (three && o) ≡ false
+  uncreates : (six && o) ≡ false
+  frees : s ≡ false
+
+parts : (two three six o s : Bool) → ((three && o) || (((two || six) && o) || s)) ≡ false → Parts two three six o s
+parts two three six o true h = clash (sure (three && o) ((two || six) && o)) h
+  where
+    sure : (a b : Bool) → (a || (b || true)) ≡ true
+    sure true b = refl
+    sure false true = refl
+    sure false false = refl
+parts true true six true false h = clash refl h
+parts true false six true false h = clash refl h
+parts false true six true false h = clash refl h
+parts false false true true false h = clash refl h
+parts false false false true false h = record { creates = refl; sets = refl; uncreates = refl; frees = refl }
+parts two three six false false h = record { creates = none two; sets = none three; uncreates = none six; frees = refl }
+  where
+    none : (a : Bool) → (a && false) ≡ false
+    none true = refl
+    none false = refl
+
+-- a record that does not touch an object leaves it and its tag
+pub untouched : (m : ℕ) (r : Record) (x : ℕ) (v : Seen) → touches r x ≡ false → acted m r x v ≡ v
+unfolding applied tagged
+untouched m r x v h = let p = parts (eqb (r .kind) 2) (eqb (r .kind) 3) (eqb (r .kind) 6) (eqb (r .object) x) (sweeps r x) h in
+    rw (or-false-r (names 3 r x) (makesOrFrees r x) h, p .creates, p .sets, p .uncreates, p .frees)
+
+-- a line that does not touch the object, and one that does not pass
+pub seen-past : (c : Line → Bool) (l : Line) (ls : List Line) (x : ℕ) → touches (l .entry) x ≡ false → seen c (l ∷ ls) x ≡ seen c ls x
+unfolding seen
+seen-past c l ls x t = by-bool (c l) (λ k. rw (k, untouched (suc (length ls)) (l .entry) x (seen c ls x) t)) (λ k. rw k)
+
+pub seen-out : (c : Line → Bool) (l : Line) (ls : List Line) (x : ℕ) → c l ≡ false → seen c (l ∷ ls) x ≡ seen c ls x
+unfolding seen
+seen-out c l ls x e = rw e
+
+pub seen-on : (c : Line → Bool) (l : Line) (ls : List Line) (x : ℕ) → c l ≡ true → seen c (l ∷ ls) x ≡ acted (suc (length ls)) (l .entry) x (seen c ls x)
+unfolding seen
+seen-on c l ls x e = rw e
+
+-- two tests that agree on the lines that touch an object
+pub seen-agree : (c d : Line → Bool) (ls : List Line) (x : ℕ) → ((l : Line) → In l ls → touches (l .entry) x ≡ true → c l ≡ d l) → seen c ls x ≡ seen d ls x
+unfolding seen
+seen-agree c d [] x h = refl
+seen-agree c d (l ∷ ls) x h = let ih = seen-agree c d ls x (λ m i. h m (later i)) in by-bool (touches (l .entry) x)
+    (λ e. rw (ih, h l here e))
+    (λ e. seen-past c l ls x e ∙ ih ∙ sym (seen-past d l ls x e))
+
+-- lines struck out are read by a test of what they become
+pub length-struck : (i : ℕ) (ls : List Line) → length (struckAll i ls) ≡ length ls
+unfolding struckAll
+length-struck i [] = refl
+length-struck i (l ∷ ls) = ap suc (length-struck i ls)
+
+pub strike-entry : (i : ℕ) (l : Line) → strike i l .entry ≡ l .entry
+strike-entry i l = by-bool (isLeft i l) (λ e. rw e) (λ e. rw e)
+
+pub strike-owner : (i : ℕ) (l : Line) → strike i l .owner ≡ l .owner
+strike-owner i l = by-bool (isLeft i l) (λ e. rw e) (λ e. rw e)
+
+pub seen-struck : (c : Line → Bool) (i : ℕ) (ls : List Line) (x : ℕ) → seen c (struckAll i ls) x ≡ seen (λ l. c (strike i l)) ls x
+unfolding seen struckAll
+seen-struck c i [] x = refl
+seen-struck c i (l ∷ ls) x = rw (length-struck i ls, seen-struck c i ls x, strike-entry i l)
+
+-- the pages of a formatted store
+abbrev zeros : ℕ → List ℕ
+zeros n = replicate n 0
+
+none-at : (n i : ℕ) → getD (zeros n) i 0 ≡ 0
+none-at n i = elim (decLt i n) [ yes l ↦ getD-replicate n i 0 0 l | no l ↦ List·getD-eq-default (zeros n) 0 (rw (length-replicate {A = ℕ} n 0) (omega arith)) ]
+
+zeros-view : (n x : ℕ) → view (zeros n) x ≡ blank
+unfolding blank
+zeros-view n x = view-by (zeros n) (λ y. blank) (λ y h. obj-ext _ _ (ap (λ (m : ℕ). bit m (slotOf y)) (none-at n (pageAt (pageOf y))) ∙ bit-none (slotOf y))
+    (λ f. by-bool (ltb f 8) (λ e. rw (e, none-at n (slotAt (pageOf y) (slotOf y) f))) (λ e. rw e))) refl x
+
+module _ (n : ℕ) (some : 1 ≤ n) where
+  zeros-length : length (zeros (129 * n)) ≡ 129 * n
+  zeros-length = length-replicate (129 * n) 0
+
+  pub formatted-length : length (formattedPages n) ≡ 129 * n
+  unfolding formattedPages
+  formatted-length = length-taken n (zeros (129 * n)) zeros-length 0 0 (omega arith) (omega arith) ∙ zeros-length
+
+  pub formatted-view : (x : ℕ) → view (formattedPages n) x ≡ first x .object
+  unfolding formattedPages
+  formatted-view x = occupy-view n (zeros (129 * n)) zeros-length 1 (omega arith) (omega arith) x ∙ rw (zeros-view (129 * n) x)
+
+  -- the pages after the lines that pass, whose records are sound
+  module _ (c : Line → Bool) where
+    pub after-length : (ls : List Line) → ((l : Line) → In l ls → c l ≡ true → recordSound n (l .entry) ≡ true) → length (pagesAfter n (filtered c ls)) ≡ 129 * n
+    unfolding pagesAfter filtered
+    after-length [] h = formatted-length
+    after-length (l ∷ ls) h = let ih = after-length ls (λ m i. h m (later i)) in by-bool (c l)
+        (λ e. rw e (length-effect n (pagesAfter n (filtered c ls)) ih (l .entry) (h l here e) ∙ ih))
+        (λ e. rw e ih)
+
+    pub after-view : (ls : List Line) → ((l : Line) → In l ls → c l ≡ true → recordSound n (l .entry) ≡ true) → (x : ℕ)
+        → view (pagesAfter n (filtered c ls)) x ≡ seen c ls x .object
+    unfolding pagesAfter filtered seen
+    after-view [] h x = formatted-view x
+    after-view (l ∷ ls) h x = let k : (m : Line) → In m ls → c m ≡ true → recordSound n (m .entry) ≡ true = λ m i. h m (later i) in by-bool (c l)
+        (λ e. rw e (effect-view n (pagesAfter n (filtered c ls)) (after-length ls k) (l .entry) (h l here e) x ∙ ap (applied (l .entry) x) (after-view ls k x)))
+        (λ e. rw e (after-view ls k x))

@@ -1,0 +1,58 @@
+use borrow.Author.Needs.{needs}
+use native.Mathlib.Omega.{arith}
+use Prim.Native.Nat.{_≤_, _-_}
+use mathlib.Core.Path.{_≡_}
+use lib.ListN.{length}
+use Rattle.words.specs.Spans.{same}
+use Rattle.page_ops.specs.Agreement.{same-none, same-next, same-end}
+use Rattle.page_ops.proofs.copy.areas_agree.Statement.{statement}
+use Rattle.page_ops.proofs.copy.areas_agree.Tie as tie
+
+abbrev Inv-loop : tie.InvT-loop
+Inv-loop a b ok₀ i₀ i-end ok i = (i ≤ length a) × (ok ≡ same a 0 b 0 i)
+
+abbrev μ-loop : tie.MeasureT-loop
+μ-loop a b ok₀ i₀ i-end ok i = length a - i
+
+loop-holds : tie.Need-loop-holds Inv-loop μ-loop
+loop-holds c = (omega arith, same-none _ _ _ _)
+
+mul-ok : tie.Need-mul-ok Inv-loop μ-loop
+mul-ok c = search needs
+
+shared-slice-read-ok : tie.Need-shared-slice-read-ok Inv-loop μ-loop
+shared-slice-read-ok c = search needs
+
+mul-ok-2 : tie.Need-mul-ok-2 Inv-loop μ-loop
+mul-ok-2 c = search needs
+
+shared-slice-read-ok-2 : tie.Need-shared-slice-read-ok-2 Inv-loop μ-loop
+shared-slice-read-ok-2 c = search needs
+
+add-i : tie.Need-add-i Inv-loop μ-loop
+add-i c = search needs
+
+loop-less : tie.Need-loop-less Inv-loop μ-loop
+loop-less c = search needs
+
+loop-again : tie.Need-loop-again Inv-loop μ-loop
+loop-again c = (omega arith, same-next _ _ _ _ _ _ (c .before .before .before .loop .inv .1) (omega arith))
+
+returns : tie.Need-returns Inv-loop μ-loop
+returns c = same-end _ _ _ _ _ _ _ (c .before .loop .inv .1) (omega arith)
+
+pub areas-agree-spec : {M : Type 1} → statement M
+areas-agree-spec =
+    tie.close
+    (tie.spec
+    Inv-loop
+    μ-loop
+    loop-holds
+    mul-ok
+    shared-slice-read-ok
+    mul-ok-2
+    shared-slice-read-ok-2
+    add-i
+    loop-less
+    loop-again
+    returns)

@@ -1,0 +1,70 @@
+use mathlib.Core.Bool.{Bool}
+use borrow.Author.Needs.{needs}
+use native.Mathlib.Omega.{arith}
+use Prim.Native.Nat.{_≤_, _-_}
+use mathlib.Core.Path.{_≡_, ap, _∙_}
+use mathlib.Core.List.{[], _++_}
+use lib.ListN.{drop, getD}
+use Rattle.words.specs.Tests.{if}
+use Rattle.pages.specs.Table.{tabulate}
+use Rattle.page_ops.specs.TableLaws.{zeroRow, freedRow, freedRows, tab-none, tab-next, tab-end}
+use Rattle.page_ops.proofs.rows.freed_rows.Statement.{statement}
+use Rattle.page_ops.proofs.rows.freed_rows.Tie as tie
+
+abbrev Inv-loop : tie.InvT-loop
+Inv-loop m t u₀ s₀ u s = (s ≤ 16) × (u ≡ tabulate (freedRow t m) s ++ drop s t)
+
+abbrev μ-loop : tie.MeasureT-loop
+μ-loop m t u₀ s₀ u s = 16 - s
+
+loop-holds : tie.Need-loop-holds Inv-loop μ-loop
+loop-holds c = (omega arith, tab-none _ _)
+
+mul-r : tie.Need-mul-r Inv-loop μ-loop
+mul-r c = search needs
+
+array-copy-out-r : tie.Need-array-copy-out-r Inv-loop μ-loop
+array-copy-out-r c = search needs
+
+has-bit-requires : tie.Need-has-bit-requires Inv-loop μ-loop
+has-bit-requires c κs = search needs
+
+kept-row-requires : tie.Need-kept-row-requires Inv-loop μ-loop
+kept-row-requires c κs = search needs
+
+mul-u : tie.Need-mul-u Inv-loop μ-loop
+mul-u c = search needs
+
+array-set-from-u : tie.Need-array-set-from-u Inv-loop μ-loop
+array-set-from-u c = search needs
+
+add-s : tie.Need-add-s Inv-loop μ-loop
+add-s c = search needs
+
+loop-less : tie.Need-loop-less Inv-loop μ-loop
+loop-less c = search needs
+
+loop-again : tie.Need-loop-again Inv-loop μ-loop
+loop-again c = let a = c .before .before .before .before .before .args in let s = c .before .before .before .before .loop .s in (omega arith, tab-next (freedRow (a .t1) (a .m)) s (a .t1) [] _ _ (c .before .before .before .before .loop .inv .1) (c .kept-row .ensures ∙ ap (λ (b : Bool). if b zeroRow (getD (a .t1) s [])) (c .before .has-bit .ensures)) (omega arith))
+
+returns : tie.Need-returns Inv-loop μ-loop
+unfolding freedRows
+returns c = tab-end _ _ _ _ _ (c .before .loop .inv .1) (omega arith) (omega arith)
+
+pub freed-rows-spec : {M : Type 1} → statement M
+freed-rows-spec =
+    tie.close
+    (tie.spec
+    Inv-loop
+    μ-loop
+    loop-holds
+    mul-r
+    array-copy-out-r
+    has-bit-requires
+    kept-row-requires
+    mul-u
+    array-set-from-u
+    add-s
+    loop-less
+    loop-again
+    returns)

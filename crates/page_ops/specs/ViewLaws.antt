@@ -1,0 +1,116 @@
+-- Each change of a page area as it is seen object by object: an area of length 129 × n, objects x and o from 1 to 16 × n.
+-- Assumes nothing.
+use Prim.Native.Nat.{ℕ, _*_, _<_, _≤_}
+use mathlib.Core.Path.{_≡_, refl, sym, ap, _∙_}
+use mathlib.Core.Bool.{Bool, true, false, not, _&&_}
+use mathlib.Core.List.{List}
+use lib.ListN.{length, length-set}
+use lib.Dec.{eqb}
+use native.Mathlib.Omega.{arith}
+use borrow.Author.Tests.{eqb-true, eqb-false, eq-eqb, ne-eqb, lt-ltb}
+use Rattle.words.specs.Tests.{if, by-bool, and-true}
+use Rattle.words.specs.Bits.{bit, withBit, withoutBit, with-same, with-other, without-same, without-other}
+use Rattle.pages.specs.Geometry.{slotAt, pageOf, slotOf}
+use Rattle.pages.specs.Objects.{mapAt, occupied, wordOf, takenSlot, freedSlot, occupy, release, written, released, copiedPage}
+use Rattle.page_ops.specs.BitLaws.{clear-bit}
+use Rattle.page_ops.specs.Places.{Holds, putSlot, length-put, map-put, word-put, map-set, word-set, length-released-in, map-released-in, word-released-in, length-copy, map-copy, word-copy}
+
+-- an object is its page and slot
+pub one-object : (x o : ℕ) → 1 ≤ x → 1 ≤ o → (eqb (pageOf x) (pageOf o) && eqb (slotOf x) (slotOf o)) ≡ eqb x o
+one-object x o hx ho = by-bool (eqb x o)
+    (λ e. rw (e, eqb-true x o e, eq-eqb (pageOf o) (pageOf o) refl, eq-eqb (slotOf o) (slotOf o) refl))
+    (λ e. let n = eqb-false x o e in by-bool (eqb (pageOf x) (pageOf o))
+    (λ p. rw (e, p) (let h = eqb-true (pageOf x) (pageOf o) p in ne-eqb (slotOf x) (slotOf o) (λ s. n (omega arith))))
+    (λ p. rw (e, p)))
+
+-- the slots of a page, occupied or freed
+
+pub length-taken : (a : List ℕ) (p s : ℕ) → length (takenSlot a p s) ≡ length a
+unfolding takenSlot
+length-taken a p s = length-put a p s (withBit (mapAt a p) s)
+
+pub length-freed : (a : List ℕ) (p s : ℕ) → length (freedSlot a p s) ≡ length a
+unfolding freedSlot
+length-freed a p s = length-put a p s (withoutBit (mapAt a p) s)
+
+module _ (n : ℕ) (a : List ℕ) (o : ℕ) (len : length a ≡ 129 * n) (ho : 1 ≤ o) (lo : o ≤ 16 * n) where
+  holds : Holds a (pageOf o)
+  holds = omega arith
+
+  slot-put : (v x : ℕ) → 1 ≤ x → mapAt (putSlot a (pageOf o) (slotOf o) v) (pageOf x) ≡ if (eqb (pageOf x) (pageOf o)) v (mapAt a (pageOf x))
+  slot-put v x hx = map-put a (pageOf o) (slotOf o) v (omega arith) holds (pageOf x)
+
+  word-put-object : (v x f : ℕ) → 1 ≤ x → f < 8 → wordOf (putSlot a (pageOf o) (slotOf o) v) x f ≡ if (eqb x o) 0 (wordOf a x f)
+  word-put-object v x f hx hf = word-put a (pageOf o) (slotOf o) v (omega arith) holds (pageOf x) (slotOf x) f (omega arith) hf
+      ∙ ap (λ (t : Bool). if t 0 (wordOf a x f)) (one-object x o hx ho)
+
+  -- another slot than o's keeps its bit where the map changes at o's only
+  bit-put : (v x : ℕ) → 1 ≤ x → (t : Bool) → bit v (slotOf o) ≡ t → ((j : ℕ) → (j ≡ slotOf o → ⊥) → bit v j ≡ bit (mapAt a (pageOf o)) j)
+      → occupied (putSlot a (pageOf o) (slotOf o) v) x ≡ if (eqb x o) t (occupied a x)
+  bit-put v x hx t same other = ap (λ (m : ℕ). bit m (slotOf x)) (slot-put v x hx) ∙ by-bool (eqb x o)
+      (λ e. rw (e, eqb-true x o e, eq-eqb (pageOf o) (pageOf o) refl) same)
+      (λ e. rw e (let d = eqb-false x o e in by-bool (eqb (pageOf x) (pageOf o))
+      (λ p. rw p (let h = eqb-true (pageOf x) (pageOf o) p in other (slotOf x) (λ s. d (omega arith)) ∙ rw (← h)))
+      (λ p. rw p)))
+
+  pub length-occupy : length (occupy a o) ≡ 129 * n
+  length-occupy = length-taken a (pageOf o) (slotOf o) ∙ len
+
+  pub occupied-occupy : (x : ℕ) → 1 ≤ x → occupied (occupy a o) x ≡ if (eqb x o) true (occupied a x)
+  unfolding takenSlot
+  occupied-occupy x hx = bit-put (withBit (mapAt a (pageOf o)) (slotOf o)) x hx true (with-same _ _) (with-other _ _)
+
+  pub word-occupy : (x f : ℕ) → 1 ≤ x → f < 8 → wordOf (occupy a o) x f ≡ if (eqb x o) 0 (wordOf a x f)
+  unfolding takenSlot
+  word-occupy x f hx hf = word-put-object (withBit (mapAt a (pageOf o)) (slotOf o)) x f hx hf
+
+  pub length-release : length (release a o) ≡ 129 * n
+  length-release = length-freed a (pageOf o) (slotOf o) ∙ len
+
+  pub occupied-release : (x : ℕ) → 1 ≤ x → occupied (release a o) x ≡ if (eqb x o) false (occupied a x)
+  unfolding freedSlot
+  occupied-release x hx = bit-put (withoutBit (mapAt a (pageOf o)) (slotOf o)) x hx false (without-same _ _) (without-other _ _)
+
+  pub word-release : (x f : ℕ) → 1 ≤ x → f < 8 → wordOf (release a o) x f ≡ if (eqb x o) 0 (wordOf a x f)
+  unfolding freedSlot
+  word-release x f hx hf = word-put-object (withoutBit (mapAt a (pageOf o)) (slotOf o)) x f hx hf
+
+  -- a word written
+
+  pub length-written : (f v : ℕ) → length (written a o f v) ≡ 129 * n
+  length-written f v = length-set a (slotAt (pageOf o) (slotOf o) f) v ∙ len
+
+  pub occupied-written : (f v : ℕ) → f < 8 → (x : ℕ) → occupied (written a o f v) x ≡ occupied a x
+  occupied-written f v hf x = ap (λ (m : ℕ). bit m (slotOf x)) (map-set a (pageOf o) (slotOf o) f v (omega arith) hf holds (pageOf x))
+
+  pub word-written : (f v : ℕ) → f < 8 → (x g : ℕ) → 1 ≤ x → g < 8 → wordOf (written a o f v) x g ≡ if (eqb x o && eqb g f) v (wordOf a x g)
+  word-written f v hf x g hx hg = word-set a (pageOf o) (slotOf o) f v (omega arith) hf holds (pageOf x) (slotOf x) g (omega arith) hg
+      ∙ ap (λ (t : Bool). if (t && eqb g f) v (wordOf a x g)) (one-object x o hx ho)
+
+-- the slots of a page's map freed
+
+module _ (n : ℕ) (a : List ℕ) (p m : ℕ) (len : length a ≡ 129 * n) (hp : p < n) where
+  pub length-released : length (released a p m) ≡ 129 * n
+  length-released = length-released-in a p m 16 ∙ len
+
+  pub occupied-released : (x : ℕ) → occupied (released a p m) x ≡ (occupied a x && not (eqb (pageOf x) p && bit m (slotOf x)))
+  occupied-released x = ap (λ (w : ℕ). bit w (slotOf x)) (map-released-in a p m (omega arith) 16 (pageOf x) (omega arith)) ∙ by-bool (eqb (pageOf x) p)
+      (λ e. rw (e, eqb-true (pageOf x) p e) (clear-bit (mapAt a p) m 16 (slotOf x) ∙ rw (lt-ltb (slotOf x) 16 (omega arith))))
+      (λ e. rw e (sym (and-true (occupied a x))))
+
+  pub word-released : (x f : ℕ) → f < 8 → wordOf (released a p m) x f ≡ if (eqb (pageOf x) p && bit m (slotOf x)) 0 (wordOf a x f)
+  word-released x f hf = word-released-in a p m (omega arith) 16 (pageOf x) (slotOf x) f (omega arith) (omega arith) hf
+      ∙ rw (lt-ltb (slotOf x) 16 (omega arith))
+
+-- a page copied
+
+module _ (n : ℕ) (from to : List ℕ) (p : ℕ) (lf : length from ≡ 129 * n) (lt : length to ≡ 129 * n) (hp : p < n) where
+  pub length-copied : length (copiedPage from to p) ≡ 129 * n
+  length-copied = length-copy from to p (omega arith) (omega arith) ∙ lt
+
+  pub occupied-copied : (x : ℕ) → occupied (copiedPage from to p) x ≡ if (eqb (pageOf x) p) (occupied from x) (occupied to x)
+  occupied-copied x = ap (λ (m : ℕ). bit m (slotOf x)) (map-copy from to p (omega arith) (omega arith) (pageOf x))
+      ∙ by-bool (eqb (pageOf x) p) (λ e. rw e) (λ e. rw e)
+
+  pub word-copied : (x f : ℕ) → f < 8 → wordOf (copiedPage from to p) x f ≡ if (eqb (pageOf x) p) (wordOf from x f) (wordOf to x f)
+  word-copied x f hf = word-copy from to p (omega arith) (omega arith) (pageOf x) (slotOf x) f (omega arith) hf

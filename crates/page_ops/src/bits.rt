@@ -1,0 +1,36 @@
+ghost use mathlib.Core.Path.{_≡_};
+ghost use Prim.Native.Nat.{_^_, _<_};
+ghost use Rattle.words.specs.Bits.{withBit, withoutBit, slotsSet};
+
+// The word with bit t only.
+pub fn mask_of(t: usize) -> u32
+    requires { ⌜ t < 32 ⌝ }
+    ensures { λ r. ⌜ r ≡ 2 ^ t ⌝ }
+{
+    1u32 << t
+}
+
+// m with bit k set.
+pub fn with_bit(m: u32, k: usize) -> u32
+    requires { ⌜ k < 32 ⌝ }
+    ensures { λ r. ⌜ r ≡ withBit m k ⌝ }
+{
+    m | mask_of(k)
+}
+
+// m with bit k clear: the bit is set first, so that taking it away borrows from no other.
+pub fn without_bit(m: u32, k: usize) -> u32
+    requires { ⌜ k < 32 ⌝ }
+    ensures { λ r. ⌜ r ≡ withoutBit m k ⌝ }
+{
+    let b = mask_of(k);
+    (m | b) - b
+}
+
+// The number of slots set in a 16-bit map.
+pub fn slots_set(m: u32) -> u32
+    requires { ⌜ m < 65536 ⌝ }
+    ensures { λ r. ⌜ r ≡ slotsSet m ⌝ }
+{
+    u32::count_ones(m)
+}

@@ -1,0 +1,2 @@
+-- Laws about log records: what a sound one says, and a log with one more record.
+pub mod RecordLaws

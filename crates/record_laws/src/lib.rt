@@ -1,0 +1,1 @@
+// Laws about log records alone.

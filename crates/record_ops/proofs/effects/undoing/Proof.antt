@@ -1,0 +1,17 @@
+use mathlib.Core.Path.{sym}
+use borrow.Author.Tests.{eq-eqb, ne-eqb}
+use Rattle.words.specs.Tests.{if-t, if-f}
+use Rattle.records.specs.Effects.{undoing}
+use Rattle.record_ops.proofs.effects.undoing.Statement.{statement}
+use Rattle.record_ops.proofs.effects.undoing.Tie as tie
+
+returns : tie.Need-returns
+unfolding undoing
+returns c = sym (if-t _ _ _ (eq-eqb _ _ (c .if1 .taken)))
+
+returns-2 : tie.Need-returns-2
+unfolding undoing
+returns-2 c = sym (if-f _ _ _ (ne-eqb _ _ (c .if1 .left)))
+
+pub undoing-spec : {M : Type 1} → statement M
+undoing-spec = tie.close (tie.spec returns returns-2)

@@ -1,0 +1,3 @@
+-- Laws of log records, and what transactions reserve as one scan of the log counts it.
+pub mod EffectLaws
+pub mod Reserves

@@ -1,0 +1,42 @@
+-- The working tables after a flush, as the collector machine's: n is the number of pages. Assumes nothing.
+use Prim.Native.Nat.{ℕ, _+_, _*_, _<_}
+use native.Mathlib.Omega.{arith}
+use mathlib.Core.Path.{_≡_, refl}
+use mathlib.Core.List.{List}
+use mathlib.Core.Logic.{inl, inr}
+use lib.ListN.{length}
+use Rattle.areas.specs.Areas.{Areas}
+use Rattle.areas.specs.Layout.{unflushedAt, knownAt}
+use Rattle.areas.specs.Tables.{lose}
+use Rattle.calls.specs.Objects.{flushed}
+use Rattle.collector.specs.State.{remove}
+use Rattle.shown.specs.Tables.{locksOf, tablesOf, passOf}
+use Rattle.shown.proofs.Frames.{Beside, beside-lose, wider, tables-ext, object-kept, flag-kept, locks-kept, pass-kept}
+use Rattle.shown.proofs.Masks.{page-lose}
+
+pub flushed-work : (s : Areas) (n t p : ℕ) → flushed s n t p .work ≡ lose (s .work) (unflushedAt n p) t
+unfolding flushed
+flushed-work s n t p = refl
+
+module _ (w : List ℕ) (n t p : ℕ) (h : p < n) where
+  pub flush-beside : Beside (unflushedAt n 0) (knownAt n 1) w (lose w (unflushedAt n p) t)
+  flush-beside = wider (beside-lose w (unflushedAt n p) t) (omega arith) (omega arith)
+
+  pub flush-locks : locksOf (lose w (unflushedAt n p) t) n ≡ locksOf w n
+  flush-locks = locks-kept flush-beside n (inr (omega arith))
+
+  pub flush-pass : passOf (lose w (unflushedAt n p) t) n ≡ passOf w n
+  flush-pass = pass-kept flush-beside n (inr (omega arith)) (inl (omega arith))
+
+  pub flush-tables : length w ≡ 6 + 67 * n → tablesOf (lose w (unflushedAt n p) t) n ≡ record {
+    kn = tablesOf w n .kn;
+    prt = tablesOf w n .prt;
+    cot = tablesOf w n .cot;
+    cotF = tablesOf w n .cotF;
+    dirty = remove (tablesOf w n .dirty) t p;
+  }
+  flush-tables len = tables-ext _ _ (object-kept flush-beside n _ (inl (omega arith)))
+      (object-kept flush-beside n _ (inl (omega arith)))
+      (object-kept flush-beside n _ (inl (omega arith)))
+      (flag-kept flush-beside n _ (inl (omega arith)))
+      (page-lose w n _ t p h (omega arith))

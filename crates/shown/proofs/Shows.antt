@@ -1,0 +1,100 @@
+-- A state of the collector machine that shows the working tables, and each call: the machine's next state shows the next tables. n is the
+-- number of pages. Assumes nothing.
+use Prim.Native.Nat.{ℕ, _+_, _*_, _<_, _≤_}
+use mathlib.Core.Path.{_≡_, sym, _∙_}
+use mathlib.Core.Bool.{true}
+use mathlib.Core.List.{List}
+use lib.ListN.{length}
+use Rattle.pages.specs.Soundness.{areaSound}
+use Rattle.areas.specs.Layout.{activeAt, unflushedAt}
+use Rattle.areas.specs.Tables.{gain, lose}
+use Rattle.calls.specs.Transactions.{knowsRoot, endedTables}
+use Rattle.calls.specs.Locks.{readLocked, writeLocked}
+use Rattle.calls.specs.Objects.{learned}
+use Rattle.collector.specs.State.{St}
+use Rattle.collector.specs.Calls as Calls
+use Rattle.views.specs.View.{view}
+use Rattle.shown.specs.Tables.{locksOf, tablesOf, passOf}
+use Rattle.shown.proofs.Begun.{begin-locks, begin-tables, begin-pass}
+use Rattle.shown.proofs.Ended.{ended-locks, ended-tables, ended-pass}
+use Rattle.shown.proofs.Locking.{lock-read-locks, lock-read-tables, lock-read-pass, lock-write-locks, lock-write-tables, lock-write-pass}
+use Rattle.shown.proofs.Learned.{read-locks, read-tables, read-pass}
+use Rattle.shown.proofs.Created.{makes, create-locks, create-tables, create-pass}
+use Rattle.shown.proofs.Written.{writes, set-locks, set-tables, set-pass}
+use Rattle.shown.proofs.Flushed.{flush-locks, flush-tables, flush-pass}
+
+pub record Shows (w : List ℕ) (n : ℕ) (s : St) : Type 0 where
+  pub count : s .count ≡ n
+  pub locks : s .locks ≡ locksOf w n
+  pub tables : s .tables ≡ tablesOf w n
+  pub pass : s .pass ≡ passOf w n
+
+module _ (w : List ℕ) (n : ℕ) (len : length w ≡ 6 + 67 * n) (s : St) (e : Shows w n s) where
+  pub begin-shows : 1 ≤ n → (t m : ℕ) → t < 16 → Shows (knowsRoot (gain w activeAt t) n t) n (Calls.begun s t m)
+  begin-shows some t m small = record {
+    count = e .count;
+    locks = rw (e .locks) (sym (begin-locks w n t some len small));
+    tables = rw (e .tables) (sym (begin-tables w n t some len small));
+    pass = e .pass ∙ sym (begin-pass w n t some);
+  }
+
+  pub commit-shows : (t m : ℕ) → t < 16 → Shows (endedTables w n t) n (Calls.committed s t m)
+  commit-shows t m small = record {
+    count = e .count;
+    locks = rw (e .locks) (sym (ended-locks w n t len));
+    tables = rw (e .tables, e .pass) (sym (ended-tables w n t len small));
+    pass = e .pass ∙ sym (ended-pass w n t);
+  }
+
+  pub abort-shows : (t m : ℕ) → t < 16 → Shows (endedTables w n t) n (Calls.aborted s t m)
+  abort-shows t m small = let c = commit-shows t m small in record { count = c .count; locks = c .locks; tables = c .tables; pass = c .pass }
+
+  pub lock-read-shows : (t p : ℕ) → t < 16 → p < n → Shows (readLocked w n t p) n (Calls.readLocked s t p)
+  lock-read-shows t p small h = record {
+    count = e .count;
+    locks = rw (e .locks) (sym (lock-read-locks w n t p h len small));
+    tables = e .tables ∙ sym (lock-read-tables w n t p h);
+    pass = e .pass ∙ sym (lock-read-pass w n t p h);
+  }
+
+  pub lock-write-shows : (t p : ℕ) → t < 16 → p < n → Shows (writeLocked w n t p) n (Calls.writeLocked s t p)
+  lock-write-shows t p small h = record {
+    count = e .count;
+    locks = rw (e .locks) (sym (lock-write-locks w n t p h len small));
+    tables = e .tables ∙ sym (lock-write-tables w n t p h);
+    pass = e .pass ∙ sym (lock-write-pass w n t p h);
+  }
+
+  pub flush-shows : (t p : ℕ) → p < n → Shows (lose w (unflushedAt n p) t) n (Calls.flushed s t p)
+  flush-shows t p h = record {
+    count = e .count;
+    locks = e .locks ∙ sym (flush-locks w n t p h);
+    tables = rw (e .tables) (sym (flush-tables w n t p h len));
+    pass = e .pass ∙ sym (flush-pass w n t p h);
+  }
+
+  module _ (t o : ℕ) (small : t < 16) (low : 1 ≤ o) (top : o ≤ 16 * n) where
+    pub create-shows : (m : ℕ) → Shows (makes w n t o) n (Calls.created s t o m)
+    create-shows m = record {
+      count = e .count;
+      locks = e .locks ∙ sym (create-locks w n t o low top);
+      tables = rw (e .tables) (sym (create-tables w n t o low top len small));
+      pass = e .pass ∙ sym (create-pass w n t o low top);
+    }
+
+    module _ (a : List ℕ) (sound : areaSound a n ≡ true) (seen : s .pages .rec o ≡ view a o) where
+      pub read-shows : Shows (learned a w n t o 8) n (Calls.readBy s t o)
+      read-shows = record {
+        count = e .count;
+        locks = e .locks ∙ sym (read-locks a w n t o sound low top);
+        tables = rw (e .tables, seen) (sym (read-tables a w n t o sound low top len small));
+        pass = e .pass ∙ sym (read-pass a w n t o sound low top);
+      }
+
+      pub set-shows : (f v m : ℕ) → f < 8 → Shows (writes a w n t o f v) n (Calls.written s t o f v m)
+      set-shows f v m h = record {
+        count = e .count;
+        locks = e .locks ∙ sym (set-locks a w n t o f v sound low top h);
+        tables = rw (e .tables, seen) (sym (set-tables a w n t o f v sound low top h len small));
+        pass = rw (e .pass, seen) (sym (set-pass a w n t o f v sound low top h len small));
+      }
