@@ -11,7 +11,7 @@ use Rattle.words.specs.Tests.{all, all-both, and-true, and-assoc, and-cong, all
 use Rattle.pages.specs.Geometry.{isRefAt}
 use Rattle.pages.specs.Objects.{taken}
 use Rattle.pages.specs.Soundness.{mapSound, refSound, refsSound, slotZero, freeZero, pageSound}
-use Rattle.page_ops.specs.BitLaws.{or-none}
+use Rattle.page_laws.specs.BitLaws.{or-none}
 
 -- the eight words from b together, and whether the four from b are at most top
 abbrev pub orOfEight : List ℕ → ℕ → ℕ

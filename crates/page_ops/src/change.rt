@@ -5,7 +5,7 @@ ghost use Prim.Native.Nat.{_+_, _*_, _<_, _≤_};
 ghost use lib.ListN.{length};
 ghost use Rattle.pages.specs.Geometry.{pageOf};
 ghost use Rattle.pages.specs.Objects.{occupied, wordOf, cleared, takenSlot, freedSlot, occupy, release, written, released};
-ghost use Rattle.page_ops.specs.BitLaws.{clearBits};
+ghost use Rattle.page_laws.specs.BitLaws.{clearBits};
 
 // Whether object o is there.
 pub fn occupied(a: &[u32], o: u32) -> bool

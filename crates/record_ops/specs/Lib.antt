@@ -1,3 +1,2 @@
 -- Laws of log records, and what transactions reserve as one scan of the log counts it.
-pub mod EffectLaws
 pub mod Reserves

@@ -14,88 +14,43 @@ use Rattle.words.specs.Bits.{bit, withBit, withoutBit, bit-with, bit-without, b
 use Rattle.words.specs.Spans.{fill, length-fill, fill-outside, fill-inside}
 use Rattle.pages.specs.Geometry.{pageAt, slotAt, pageOf, slotOf}
 use Rattle.pages.specs.Objects.{mapAt, taken, slotWord, cleared, takenSlot, freedSlot, releasedIn}
-use Rattle.views.proofs.Places.{same-place, no-map, map-inside, slot-inside}
+use Rattle.page_laws.specs.Places.{Holds, length-put, map-put, word-put, map-set, word-set}
 
 -- slot r of page q is slot s of page p
 abbrev pub here : ℕ → ℕ → ℕ → ℕ → Bool
 here p s q r = eqb q p && eqb r s
 
-pub length-cleared : (a : List ℕ) (p s : ℕ) → length (cleared a p s) ≡ length a
-unfolding cleared
-length-cleared a p s = length-fill (λ f. 0) a (slotAt p s 0) 8
-
 module _ (n : ℕ) (a : List ℕ) (len : length a ≡ 129 * n) (p s : ℕ) (hp : p < n) (hs : s < 16) where
-  cleared-map : (q : ℕ) → mapAt (cleared a p s) q ≡ mapAt a q
-  unfolding cleared
-  cleared-map q = fill-outside (λ f. 0) a (slotAt p s 0) 8 (pageAt q) 0 (λ k l e. no-map p q s k hs l (omega arith))
+  held : Holds a p
+  held = omega arith
 
-  cleared-word : (q r f : ℕ) → r < 16 → f < 8 → slotWord (cleared a p s) q r f ≡ if (here p s q r) 0 (slotWord a q r f)
-  unfolding cleared
-  cleared-word q r f hr hf = by-bool (eqb q p)
-      (λ e. rw e (by-bool (eqb r s)
-      (λ d. rw (d, eqb-true q p e, eqb-true r s d) (at-slot f hf))
-      (λ d. rw d (apart q r f hr hf (λ z. eqb-false r s d (z .1))))))
-      (λ e. rw e (apart q r f hr hf (λ z. eqb-false q p e (z .0))))
-    where
-      at-slot : (f : ℕ) → f < 8 → slotWord (fill (λ k. 0) a (slotAt p s 0) 8) p s f ≡ 0
-      at-slot f hf = let e : slotAt p s f ≡ slotAt p s 0 + f = omega arith in
-          rw e (fill-inside (λ k. 0) a (slotAt p s 0) 8 f (let i = slot-inside n p s 7 hp hs (omega arith) in omega arith) hf)
-
-      apart : (q r f : ℕ) → r < 16 → f < 8 → ((q ≡ p) × (r ≡ s) → ⊥) → slotWord (fill (λ k. 0) a (slotAt p s 0) 8) q r f ≡ slotWord a q r f
-      apart q r f hr hf n = fill-outside (λ k. 0) a (slotAt p s 0) 8 (slotAt q r f) 0
-          (λ k l e. let z = same-place q p r s f k hr hs hf l (omega arith) in n (z .0, z .1))
-
--- a map with another word, and the slot cleared: what takenSlot and freedSlot do
-module _ (n : ℕ) (a : List ℕ) (len : length a ≡ 129 * n) (p s v : ℕ) (hp : p < n) (hs : s < 16) where
-  remade : List ℕ
-  remade = cleared (set a (pageAt p) v) p s
-
-  length-remade : length remade ≡ length a
-  unfolding remade
-  length-remade = length-cleared (set a (pageAt p) v) p s ∙ length-set a (pageAt p) v
-
-  inner : length (set a (pageAt p) v) ≡ 129 * n
-  inner = length-set a (pageAt p) v ∙ len
-
-  remade-map : (q : ℕ) → mapAt remade q ≡ if (eqb q p) v (mapAt a q)
-  unfolding remade
-  remade-map q = cleared-map n (set a (pageAt p) v) inner p s hp hs q ∙ by-bool (eqb q p)
-      (λ e. rw (e, eqb-true q p e) (getD-set-same a (pageAt p) v 0 (rw len (map-inside n p hp))))
-      (λ e. rw e (getD-set-other a (pageAt p) (pageAt q) v 0 (λ z. eqb-false q p e (omega arith))))
-
-  remade-word : (q r f : ℕ) → r < 16 → f < 8 → slotWord remade q r f ≡ if (here p s q r) 0 (slotWord a q r f)
-  unfolding remade
-  remade-word q r f hr hf = cleared-word n (set a (pageAt p) v) inner p s hp hs q r f hr hf
-      ∙ ap (λ (x : ℕ). if (here p s q r) 0 x) (getD-set-other a (pageAt p) (slotAt q r f) v 0 (λ z. no-map q p r f hr hf z))
-
-module _ (n : ℕ) (a : List ℕ) (len : length a ≡ 129 * n) (p s : ℕ) (hp : p < n) (hs : s < 16) where
   pub length-taken : length (takenSlot a p s) ≡ length a
-  unfolding takenSlot remade
-  length-taken = length-remade n a len p s (withBit (mapAt a p) s) hp hs
+  unfolding takenSlot
+  length-taken = length-put a p s (withBit (mapAt a p) s)
 
   pub length-freed : length (freedSlot a p s) ≡ length a
-  unfolding freedSlot remade
-  length-freed = length-remade n a len p s (withoutBit (mapAt a p) s) hp hs
+  unfolding freedSlot
+  length-freed = length-put a p s (withoutBit (mapAt a p) s)
 
   pub taken-occ : (q r : ℕ) → taken (takenSlot a p s) q r ≡ (taken a q r || here p s q r)
-  unfolding takenSlot remade
-  taken-occ q r = ap (λ (m : ℕ). bit m r) (remade-map n a len p s (withBit (mapAt a p) s) hp hs q) ∙ by-bool (eqb q p)
+  unfolding takenSlot
+  taken-occ q r = ap (λ (m : ℕ). bit m r) (map-put a p s (withBit (mapAt a p) s) hs held q) ∙ by-bool (eqb q p)
       (λ e. rw (e, eqb-true q p e) (bit-with (mapAt a p) s r))
       (λ e. rw e (sym (or-false (bit (mapAt a q) r))))
 
   pub freed-occ : (q r : ℕ) → taken (freedSlot a p s) q r ≡ (taken a q r && not (here p s q r))
-  unfolding freedSlot remade
-  freed-occ q r = ap (λ (m : ℕ). bit m r) (remade-map n a len p s (withoutBit (mapAt a p) s) hp hs q) ∙ by-bool (eqb q p)
+  unfolding freedSlot
+  freed-occ q r = ap (λ (m : ℕ). bit m r) (map-put a p s (withoutBit (mapAt a p) s) hs held q) ∙ by-bool (eqb q p)
       (λ e. rw (e, eqb-true q p e) (bit-without (mapAt a p) s r))
       (λ e. rw e (sym (and-true (bit (mapAt a q) r))))
 
   pub taken-word : (q r f : ℕ) → r < 16 → f < 8 → slotWord (takenSlot a p s) q r f ≡ if (here p s q r) 0 (slotWord a q r f)
-  unfolding takenSlot remade
-  taken-word q r f hr hf = remade-word n a len p s (withBit (mapAt a p) s) hp hs q r f hr hf
+  unfolding takenSlot
+  taken-word q r f hr hf = word-put a p s (withBit (mapAt a p) s) hs held q r f hr hf
 
   pub freed-word : (q r f : ℕ) → r < 16 → f < 8 → slotWord (freedSlot a p s) q r f ≡ if (here p s q r) 0 (slotWord a q r f)
-  unfolding freedSlot remade
-  freed-word q r f hr hf = remade-word n a len p s (withoutBit (mapAt a p) s) hp hs q r f hr hf
+  unfolding freedSlot
+  freed-word q r f hr hf = word-put a p s (withoutBit (mapAt a p) s) hs held q r f hr hf
 
 -- slot r of page q is one of the first k slots of page p that the map m has
 abbrev pub within : ℕ → ℕ → ℕ → ℕ → ℕ → Bool
@@ -150,16 +105,7 @@ module _ (n : ℕ) (a : List ℕ) (len : length a ≡ 129 * n) (p m : ℕ) (hp :
 -- one word written
 module _ (n : ℕ) (a : List ℕ) (len : length a ≡ 129 * n) (p s f v : ℕ) (hp : p < n) (hs : s < 16) (hf : f < 8) where
   pub put-map : (q : ℕ) → mapAt (set a (slotAt p s f) v) q ≡ mapAt a q
-  put-map q = getD-set-other a (slotAt p s f) (pageAt q) v 0 (λ z. no-map p q s f hs hf (sym z))
+  put-map q = map-set a p s f v hs hf (omega arith) q
 
   pub put-word : (q r g : ℕ) → r < 16 → g < 8 → slotWord (set a (slotAt p s f) v) q r g ≡ if (here p s q r && eqb g f) v (slotWord a q r g)
-  put-word q r g hr hg = by-bool (eqb q p)
-      (λ e. by-bool (eqb r s)
-      (λ d. by-bool (eqb g f)
-      (λ c. rw (e, d, c, eqb-true q p e, eqb-true r s d, eqb-true g f c) (getD-set-same a (slotAt p s f) v 0 (rw len (slot-inside n p s f hp hs hf))))
-      (λ c. rw (e, d, c) (apart (λ z. eqb-false g f c (z .2)))))
-      (λ d. rw (e, d) (apart (λ z. eqb-false r s d (z .1)))))
-      (λ e. rw e (apart (λ z. eqb-false q p e (z .0))))
-    where
-      apart : ((q ≡ p) × (r ≡ s) × (g ≡ f) → ⊥) → slotWord (set a (slotAt p s f) v) q r g ≡ slotWord a q r g
-      apart k = getD-set-other a (slotAt p s f) (slotAt q r g) v 0 (λ z. k (same-place q p r s g f hr hs hg hf z))
+  put-word q r g hr hg = word-set a p s f v hs hf (omega arith) q r g hr hg

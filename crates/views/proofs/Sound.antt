@@ -10,6 +10,8 @@ use Rattle.words.specs.Tests.{if, all-at, by-bool, clash, and-split, or-cases}
 use Rattle.words.specs.Bits.{bit}
 use Rattle.pages.specs.Geometry.{isObject, pageOf, slotOf, root}
 use Rattle.records.specs.declared.Record.{Record}
+use Rattle.record_laws.specs.RecordLaws as Laws
+use Rattle.record_laws.specs.RecordLaws.{named-object}
 use Rattle.records.specs.Soundness.{kindSound, txnSound, objectSound, fieldSound, oldSound, newSound, namesObject, sweptSound, referenceSound, wordSound, recordSound}
 
 -- the facts, each under the kinds it is about
@@ -47,40 +49,21 @@ sound-words n r h = record {
   new = all-at (wordSound n r) 6 5 h (omega arith);
 }
 
-reference : (n f v : ℕ) → (leb 4 f || leb v (16 * n)) ≡ true → f < 4 → v ≤ 16 * n
-reference n f v h l = elim (or-cases (leb 4 f) (leb v (16 * n)) h) [ inl e ↦ absurd (let k = leb-true 4 f e in omega arith) | inr e ↦ leb-true v (16 * n) e ]
-
-of-two : (r : Record) → r .kind ≡ 2 → namesObject r ≡ true
-of-two r k = rw k refl
-
-of-three : (r : Record) → r .kind ≡ 3 → namesObject r ≡ true
-of-three r k = rw k refl
-
-of-six : (r : Record) → r .kind ≡ 6 → namesObject r ≡ true
-of-six r k = rw k refl
+swept-root : (o m : ℕ) → (o ≡ 0 → bit m 0 ≡ false) → (eqb o (pageOf root) && bit m (slotOf root)) ≡ false
+swept-root o m h = by-bool (eqb o 0) (λ e. rw (e, h (eqb-true o 0 e)) refl) (λ e. rw e refl)
 
 pub sound-record : (n : ℕ) (r : Record) → recordSound n r ≡ true → SoundRecord n r
-sound-record n r h = record {
-  low = leb-true 1 (r .kind) (and-split (leb 1 (r .kind)) (leb (r .kind) 7) (w .kind) .0);
-  high = leb-true (r .kind) 7 (and-split (leb 1 (r .kind)) (leb (r .kind) 7) (w .kind) .1);
-  txn = λ k. by-bool (eqb (r .kind) 7) (λ e. absurd (k (eqb-true (r .kind) 7 e))) (λ e. ltb-true (r .txn) 16 (rw e at (w .txn)));
-  sweepTxn = λ k. eqb-true (r .txn) 0 (rw k at (w .txn));
-  object = λ k. let p = and-split (isObject n (r .object)) (eqb (r .kind) 3 || not (eqb (r .object) root)) (rw k at (w .object)) in
-      let q = and-split (leb 1 (r .object)) (leb (r .object) (16 * n)) (p .0) in (leb-true 1 (r .object) (q .0), leb-true (r .object) (16 * n) (q .1));
-  page = λ k. ltb-true (r .object) n (rw k at (w .object));
-  field = λ k. ltb-true (r .field) 8 (rw k at (w .field));
-  map = λ k. let p = swept k in leb-true (r .new) 65535 (p .0);
-  spared = λ k. let p = swept k in not-true _ (p .1);
-  notRoot = λ k e. elim k [ inl z ↦ never (rw z at (w .object)) e | inr z ↦ never (rw z at (w .object)) e ];
-  old = λ k l. reference n (r .field) (r .old) (rw k at (w .old)) l;
-  new = λ k l. reference n (r .field) (r .new) (rw k at (w .new)) l;
+sound-record n r h = let l = Laws.sound-record n r h in record {
+  low = l .kind-from;
+  high = l .kind-to;
+  txn = λ k. l .txn-below;
+  sweepTxn = l .sweep-txn;
+  object = named-object n r l;
+  page = λ k. l .sweep k .0;
+  field = λ k. l .field-below;
+  map = λ k. let m = l .sweep k .1 in omega arith;
+  spared = λ k. swept-root (r .object) (r .new) (l .sweep-root k);
+  notRoot = λ k e. elim k [ inl z ↦ (let m = l .create z .0 in omega arith) | inr z ↦ (let m = l .uncreate z .0 in omega arith) ];
+  old = l .old-reference;
+  new = l .new-reference;
 }
-  where
-    w : SoundWords n r
-    w = sound-words n r h
-
-    swept : r .kind ≡ 7 → (leb (r .new) 65535 ≡ true) × (not (eqb (r .object) (pageOf root) && bit (r .new) (slotOf root)) ≡ true)
-    swept k = and-split (leb (r .new) 65535) (not (eqb (r .object) (pageOf root) && bit (r .new) (slotOf root))) (rw k at (w .new))
-
-    never : (isObject n (r .object) && not (eqb (r .object) root)) ≡ true → r .object ≡ root → ⊥
-    never h e = clash (eq-eqb (r .object) root e) (not-true (eqb (r .object) root) (and-split (isObject n (r .object)) (not (eqb (r .object) root)) h .1))

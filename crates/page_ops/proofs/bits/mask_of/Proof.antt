@@ -1,3 +1,4 @@
+-- A shift of 1 by less than the width loses nothing. Assumes nothing.
 use native.Mathlib.Omega.{arith}
 use lib.Pow.{shl-exact}
 use native.Mathlib.Nat.{one-mul}

@@ -1,3 +1,4 @@
+-- The machine's count of ones is the number of slots set. Assumes nothing.
 use Rattle.words.specs.Bits.{slots-ones}
 use Rattle.page_ops.proofs.bits.slots_set.Statement.{statement}
 use Rattle.page_ops.proofs.bits.slots_set.Tie as tie

@@ -1,6 +1,7 @@
+-- A mask of one bit joined to a word sets that bit. Assumes nothing.
 use lib.Bits.{bitOr}
 use mathlib.Core.Path.{ap, _∙_}
-use Rattle.page_ops.specs.BitLaws.{or-bit}
+use Rattle.page_laws.specs.BitLaws.{or-bit}
 use borrow.Author.Needs.{needs}
 use Rattle.page_ops.proofs.bits.with_bit.Statement.{statement}
 use Rattle.page_ops.proofs.bits.with_bit.Tie as tie

@@ -1,7 +1,8 @@
+-- The bit is set before it is taken away. Assumes nothing.
 use lib.Bits.{bitOr}
 use mathlib.Core.Path.{ap, _∙_}
 use Prim.Native.Nat.{ℕ, _-_}
-use Rattle.page_ops.specs.BitLaws.{or-without, or-le-r}
+use Rattle.page_laws.specs.BitLaws.{or-without, or-le-r}
 use borrow.Author.Needs.{needs}
 use Rattle.page_ops.proofs.bits.without_bit.Statement.{statement}
 use Rattle.page_ops.proofs.bits.without_bit.Tie as tie

@@ -1,5 +1,6 @@
+-- All bits of m are set before they are taken away. Assumes nothing.
 use native.Mathlib.Omega.{arith}
-use Rattle.page_ops.specs.BitLaws.{or-le-r, clear-or}
+use Rattle.page_laws.specs.BitLaws.{or-le-r, clear-or}
 use Rattle.page_ops.proofs.change.clear_bits.Statement.{statement}
 use Rattle.page_ops.proofs.change.clear_bits.Tie as tie
 

@@ -1,10 +1,11 @@
+-- Invariant: the words passed are 0, the rest as at entry. Assumes nothing.
 use borrow.Author.Needs.{needs}
 use native.Mathlib.Omega.{arith}
 use Prim.Native.Nat.{_≤_, _-_}
 use mathlib.Core.Path.{_≡_, refl, _∙_}
 use lib.ListN.{length, length-set}
 use Rattle.words.specs.Spans.{fill}
-use Rattle.page_ops.specs.Runs.{fill-turn}
+use Rattle.page_laws.specs.Runs.{fill-turn}
 use Rattle.page_ops.specs.TableLaws.{cleared-from}
 use Rattle.page_ops.proofs.change.clear_slot.Statement.{statement}
 use Rattle.page_ops.proofs.change.clear_slot.Tie as tie

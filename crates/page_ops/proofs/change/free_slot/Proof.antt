@@ -1,3 +1,4 @@
+-- The map's new word is what `without_bit` ensures. Assumes nothing.
 use Prim.Native.Nat.{ℕ, _*_}
 use mathlib.Core.Path.{ap, _∙_}
 use lib.ListN.{set, length-set}
@@ -35,7 +36,7 @@ same-length c = c .before .before .clear-slot .kept .0 ∙ simp length-set
 
 returns : tie.Need-returns
 unfolding freedSlot
-returns c = c .before .before .clear-slot .ensures ∙ ap (λ (v : ℕ). cleared (set (c .before .before .before .before .before .before .before .args .a .now) (129 * c .before .before .before .before .before .before .before .args .p) v) (c .before .before .before .before .before .before .before .args .p) (c .before .before .before .before .before .before .before .args .s)) (c .before .before .before .before .without-bit .ensures)
+returns c = let a = c .before .before .before .before .before .before .before .args in c .before .before .clear-slot .ensures ∙ ap (λ (v : ℕ). cleared (set (a .a .now) (129 * a .p) v) (a .p) (a .s)) (c .before .before .before .before .without-bit .ensures)
 
 pub free-slot-spec : {M : Type 1} → statement M
 free-slot-spec =

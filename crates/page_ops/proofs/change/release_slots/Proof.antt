@@ -1,3 +1,4 @@
+-- The table that is written back is that of `released-table`. Assumes nothing.
 use Prim.Native.Nat.{ℕ, _*_}
 use mathlib.Core.Path.{ap, _∙_}
 use mathlib.Core.List.{List}

@@ -1,10 +1,11 @@
+-- Invariant: the words passed are copied, the rest as at entry. Assumes nothing.
 use borrow.Author.Needs.{needs}
 use native.Mathlib.Omega.{arith}
 use Prim.Native.Nat.{_≤_, _-_}
 use mathlib.Core.Path.{_≡_, refl}
 use lib.ListN.{length, length-set}
 use Rattle.words.specs.Spans.{copied}
-use Rattle.page_ops.specs.Runs.{copied-none, copied-next}
+use Rattle.page_laws.specs.Runs.{copied-none, copied-next}
 use Rattle.page_ops.proofs.copy.copy_page.Statement.{statement}
 use Rattle.page_ops.proofs.copy.copy_page.Tie as tie
 

@@ -1,3 +1,4 @@
+-- Invariant: the flag says whether the words passed are the same. Assumes nothing.
 use borrow.Author.Needs.{needs}
 use native.Mathlib.Omega.{arith}
 use Prim.Native.Nat.{_≤_, _-_}

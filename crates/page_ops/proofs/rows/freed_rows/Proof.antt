@@ -1,3 +1,4 @@
+-- Invariant: the rows passed are kept or zero, the rest are the table's. Assumes nothing.
 use mathlib.Core.Bool.{Bool}
 use borrow.Author.Needs.{needs}
 use native.Mathlib.Omega.{arith}

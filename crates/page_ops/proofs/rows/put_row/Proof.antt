@@ -1,3 +1,4 @@
+-- Invariant: the words passed are the row's, the rest as at entry. Assumes nothing.
 use borrow.Author.Needs.{needs}
 use native.Mathlib.Omega.{arith}
 use Prim.Native.Nat.{ℕ, _≤_, _-_, _+_}
@@ -5,7 +6,7 @@ use mathlib.Core.Path.{_≡_, refl, ap, _∙_}
 use mathlib.Core.List.{List}
 use lib.Seq.{paste, paste-zero}
 use lib.ListN.{length, length-set, set, getD}
-use Rattle.page_ops.specs.Runs.{paste-next}
+use Rattle.page_laws.specs.Runs.{paste-next}
 use Rattle.page_ops.proofs.rows.put_row.Statement.{statement}
 use Rattle.page_ops.proofs.rows.put_row.Tie as tie
 

@@ -1,3 +1,4 @@
+-- Invariant: the rows passed are the table's, the rest as at entry. Assumes nothing.
 use borrow.Author.Needs.{needs}
 use native.Mathlib.Omega.{arith}
 use Prim.Native.Nat.{_≤_, _-_}

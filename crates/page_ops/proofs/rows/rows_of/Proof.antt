@@ -1,3 +1,4 @@
+-- Invariant: the rows passed are the page's, the rest still zero. Assumes nothing.
 use borrow.Author.Needs.{needs}
 use native.Mathlib.Omega.{arith}
 use Prim.Native.Nat.{_≤_, _-_}

@@ -1,3 +1,4 @@
+-- Invariant: the flag says whether the slots passed are occupied or zero. Assumes nothing.
 use borrow.Author.Needs.{needs}
 use native.Mathlib.Omega.{arith}
 use mathlib.Core.Path.{_≡_, sym, _∙_}

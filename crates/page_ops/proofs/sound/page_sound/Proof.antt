@@ -1,3 +1,4 @@
+-- Invariant: the flag says whether the map and the slots passed are sound. Assumes nothing.
 use borrow.Author.Needs.{needs}
 use native.Mathlib.Omega.{arith}
 use mathlib.Core.Path.{_≡_}

@@ -1,3 +1,4 @@
+-- Invariant: the free slots of the pages passed are zero. Assumes nothing.
 use borrow.Author.Needs.{needs}
 use native.Mathlib.Omega.{arith}
 use Prim.Native.Nat.{_≤_, _-_}

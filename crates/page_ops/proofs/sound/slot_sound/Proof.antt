@@ -1,3 +1,4 @@
+-- The tests of the two callees are those of the slot. Assumes nothing.
 use mathlib.Core.Path.{_∙_}
 use Rattle.words.specs.Tests.{and-cong}
 use Rattle.page_ops.specs.SoundLaws.{slotSound, refs-four}

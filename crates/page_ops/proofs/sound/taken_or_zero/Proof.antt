@@ -1,3 +1,4 @@
+-- The words of a slot are 0 where all of them together are. Assumes nothing.
 use mathlib.Core.Path.{ap, _∙_}
 use Prim.Native.Nat.{ℕ}
 use lib.Dec.{eqb}

@@ -3,7 +3,7 @@ use native.Mathlib.Omega.{arith}
 use borrow.Author.Needs.{needs}
 use Rattle.records.specs.Effects.{effect}
 use Rattle.record_laws.specs.RecordLaws.{sound-record}
-use Rattle.record_ops.specs.EffectLaws.{effect-none}
+use Rattle.record_laws.specs.EffectLaws.{effect-none}
 use Rattle.record_ops.proofs.effects.apply.Statement.{statement}
 use Rattle.record_ops.proofs.effects.apply.Tie as tie
 

@@ -3,7 +3,7 @@ use native.Mathlib.Omega.{arith}
 use borrow.Author.Needs.{needs}
 use Rattle.records.specs.Effects.{undone}
 use Rattle.record_laws.specs.RecordLaws.{sound-record}
-use Rattle.record_ops.specs.EffectLaws.{undone-none}
+use Rattle.record_laws.specs.EffectLaws.{undone-none}
 use Rattle.record_ops.proofs.effects.take_back.Statement.{statement}
 use Rattle.record_ops.proofs.effects.take_back.Tie as tie
 

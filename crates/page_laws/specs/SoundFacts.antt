@@ -12,9 +12,9 @@ use Rattle.words.specs.Bits.{bit, withBit, withoutBit, with-lt, without-le, wit
 use Rattle.pages.specs.Geometry.{pageAt, slotAt, pageOf, slotOf, objectAt, root, isRefAt, isRef}
 use Rattle.pages.specs.Objects.{mapAt, taken, slotWord, occupied, wordOf, takenSlot, freedSlot, occupy, release, written, released, copiedPage}
 use Rattle.pages.specs.Soundness.{mapSound, refSound, refsSound, slotZero, freeZero, pageSound, areaSound}
-use Rattle.page_ops.specs.BitLaws.{clear-le, clear-bit, bit-above, bits-ext}
-use Rattle.page_ops.specs.Places.{area-ext, both-true, putSlot, map-put, word-put, map-set, word-set, map-released-in, word-released-in, map-copy, word-copy}
-use Rattle.page_ops.specs.ViewLaws.{occupied-occupy, occupied-release, occupied-written, occupied-released, occupied-copied}
+use Rattle.page_laws.specs.BitLaws.{clear-le, clear-bit, bit-above, bits-ext}
+use Rattle.page_laws.specs.Places.{area-ext, both-true, putSlot, map-put, word-put, map-set, word-set, map-released-in, word-released-in, map-copy, word-copy}
+use Rattle.page_laws.specs.ViewLaws.{occupied-occupy, occupied-release, occupied-written, occupied-released, occupied-copied}
 
 -- the facts, page by page
 pub record Sound (a : List ℕ) (n : ℕ) : Type 0 where

@@ -12,8 +12,8 @@ use Rattle.words.specs.Tests.{if, by-bool, and-true}
 use Rattle.words.specs.Bits.{bit, withBit, withoutBit, with-same, with-other, without-same, without-other}
 use Rattle.pages.specs.Geometry.{slotAt, pageOf, slotOf}
 use Rattle.pages.specs.Objects.{mapAt, occupied, wordOf, takenSlot, freedSlot, occupy, release, written, released, copiedPage}
-use Rattle.page_ops.specs.BitLaws.{clear-bit}
-use Rattle.page_ops.specs.Places.{Holds, putSlot, length-put, map-put, word-put, map-set, word-set, length-released-in, map-released-in, word-released-in, length-copy, map-copy, word-copy}
+use Rattle.page_laws.specs.BitLaws.{clear-bit}
+use Rattle.page_laws.specs.Places.{Holds, putSlot, length-put, map-put, word-put, map-set, word-set, length-released-in, map-released-in, word-released-in, length-copy, map-copy, word-copy}
 
 -- an object is its page and slot
 pub one-object : (x o : ℕ) → 1 ≤ x → 1 ≤ o → (eqb (pageOf x) (pageOf o) && eqb (slotOf x) (slotOf o)) ≡ eqb x o

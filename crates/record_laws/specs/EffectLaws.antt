@@ -10,8 +10,8 @@ use borrow.Author.Tests.{ne-eqb}
 use Rattle.words.specs.Tests.{if, by-bool}
 use Rattle.words.specs.Bits.{bit, withoutBit}
 use Rattle.pages.specs.Geometry.{pageOf, slotOf}
-use Rattle.page_ops.specs.Places.{length-released-in}
-use Rattle.page_ops.specs.ViewLaws.{length-taken, length-freed}
+use Rattle.page_laws.specs.Places.{length-released-in}
+use Rattle.page_laws.specs.ViewLaws.{length-taken, length-freed}
 use Rattle.records.specs.declared.Record.{Record}
 use Rattle.records.specs.Records.{recordAt}
 use Rattle.records.specs.Soundness.{recordSound}

@@ -16,8 +16,8 @@ use Rattle.words.specs.Spans.{fill, length-fill, fill-inside, fill-outside, cop
 use Rattle.pages.specs.Geometry.{pageAt, slotAt}
 use Rattle.pages.specs.Objects.{mapAt, slotWord, cleared, freedSlot, releasedIn, copiedPage}
 use Rattle.pages.specs.Table.{withRows}
-use Rattle.page_ops.specs.BitLaws.{clearBits, below-suc}
-use Rattle.page_ops.specs.Runs.{paste-inside, paste-outside, length-copied, copied-inside, copied-outside}
+use Rattle.page_laws.specs.BitLaws.{clearBits, below-suc}
+use Rattle.page_laws.specs.Runs.{paste-inside, paste-outside, length-copied, copied-inside, copied-outside}
 
 abbrev pub Holds : List ℕ → ℕ → Type 0
 Holds a p = 129 * p + 129 ≤ length a

@@ -1,0 +1,90 @@
+-- Records that take one another back: the undoing record of a create or a set, and the objects at which undoing gives back what stood
+-- before. Assumes nothing.
+use Prim.Native.Nat.{ℕ, _≤_, _<_}
+use mathlib.Core.Path.{_≡_, refl, sym, _∙_}
+use mathlib.Core.Bool.{true, false, _||_}
+use mathlib.Core.List.{List}
+use mathlib.Core.Logic.{_⊎_, inl, inr}
+use lib.Dec.{eqb, ltb}
+use borrow.Author.Tests.{eqb-true, eq-eqb, le-leb, lt-ltb, ltb-true}
+use Rattle.words.specs.Tests.{all-at, by-bool, clash, or-cases}
+use Rattle.pages.specs.Geometry.{pageOf, slotOf}
+use Rattle.pages.specs.Objects.{occupied, wordOf, taken}
+use Rattle.pages.specs.Soundness.{slotZero, freeZero}
+use Rattle.records.specs.declared.Record.{Record}
+use Rattle.records.specs.Records.{setOf, uncreateOf}
+use Rattle.records.specs.Effects.{effect, undone, undoing}
+use Rattle.collector.specs.Objects.{Obj, blank, fresh, put}
+use Rattle.views.specs.View.{view, applied, unapplied}
+use Rattle.views.proofs.Places.{slot-small}
+use Rattle.views.proofs.Effects.{obj-ext}
+use Rattle.recovery.specs.Lines.{acts}
+use Rattle.recovery.specs.Shapes.{shape}
+use Rattle.recovery.proofs.Shapes.{shape-change}
+
+-- a create or a set
+abbrev pub Change : Record → Type 0
+Change r = (r .kind ≡ 2) ⊎ (r .kind ≡ 3)
+
+-- the undoing record has the effect of undoing
+pub undoing-effect : (a : List ℕ) (r : Record) → Change r → effect a (undoing r) ≡ undone a r
+unfolding effect undone undoing
+undoing-effect a r (inl k) = rw k refl
+undoing-effect a r (inr k) = rw k refl
+
+module _ (r : Record) where
+  self : eqb (r .object) (r .object) ≡ true
+  self = eq-eqb (r .object) (r .object) refl
+
+  undoing-applied : Change r → (b : Obj) → applied (undoing r) (r .object) b ≡ unapplied r (r .object) b
+  unfolding applied unapplied undoing
+  undoing-applied (inl k) b = rw (k, self) refl
+  undoing-applied (inr k) b = rw (k, self) refl
+
+  undoing-unapplied : Change r → (b : Obj) → unapplied (undoing r) (r .object) b ≡ applied r (r .object) b
+  unfolding applied unapplied undoing
+  undoing-unapplied (inl k) b = rw (k, self) refl
+  undoing-unapplied (inr k) b = rw (k, self) refl
+
+  undoing-shape : Change r → shape (undoing r) ≡ acts (r .txn) (r .object) (applied (undoing r) (r .object)) (unapplied (undoing r) (r .object))
+  unfolding undoing
+  undoing-shape (inl k) = rw k (shape-change (uncreateOf (r .txn) (r .object)) refl)
+  undoing-shape (inr k) = rw k (shape-change (setOf (r .txn) (r .object) (r .field) (r .new) (r .old)) refl)
+
+  -- the line of the undoing record takes the record's line back
+  pub shape-undoing : Change r → shape (undoing r) ≡ acts (r .txn) (r .object) (unapplied r (r .object)) (applied r (r .object))
+  shape-undoing c = undoing-shape c ∙ (λ j. acts (r .txn) (r .object) (λ b. undoing-applied c b j) (λ b. undoing-unapplied c b j))
+
+  -- undoing gives back: a create of a free object with zeros, a set whose old word stands there, an uncreate of a new object
+  pub create-back : (v : Obj) → r .kind ≡ 2 → v ≡ blank → unapplied r (r .object) (applied r (r .object) v) ≡ v
+  unfolding unapplied
+  create-back v k e = rw (k, self, e) refl
+
+  pub set-back : (v : Obj) → r .kind ≡ 3 → v .word (r .field) ≡ r .old → unapplied r (r .object) (applied r (r .object) v) ≡ v
+  unfolding applied unapplied put
+  set-back v k e = rw (k, self) (obj-ext _ _ refl (λ f. by-bool (eqb f (r .field)) (λ h. rw (h, eqb-true f (r .field) h) (sym e)) (λ h. rw h refl)))
+
+  pub uncreate-back : (v : Obj) → r .kind ≡ 6 → v ≡ fresh → unapplied r (r .object) (applied r (r .object) v) ≡ v
+  unfolding unapplied
+  uncreate-back v k e = rw (k, self, e) refl
+
+-- what a view shows
+module _ (a : List ℕ) (x : ℕ) (hx : 1 ≤ x) where
+  pub view-occ : view a x .occ ≡ occupied a x
+  unfolding view
+  view-occ = rw (le-leb 1 x hx) refl
+
+  pub view-word : (f : ℕ) → f < 8 → view a x .word f ≡ wordOf a x f
+  unfolding view
+  view-word f l = rw (le-leb 1 x hx, lt-ltb f 8 l) refl
+
+  -- a free slot of a sound page
+  pub view-free : occupied a x ≡ false → freeZero a (pageOf x) ≡ true → view a x ≡ blank
+  unfolding view blank freeZero slotZero
+  view-free e z = rw (le-leb 1 x hx) (obj-ext _ _ e (λ f. by-bool (ltb f 8) (λ h. rw h (words f (ltb-true f 8 h))) (λ h. rw h refl)))
+    where
+      words : (f : ℕ) → f < 8 → wordOf a x f ≡ 0
+      words f l = elim (or-cases (occupied a x) (slotZero a (pageOf x) (slotOf x)) (all-at (λ s. taken a (pageOf x) s || slotZero a (pageOf x) s) 16 (slotOf x) z (slot-small x))) [
+        | inl h ↦ clash h e
+        | inr h ↦ eqb-true (wordOf a x f) 0 (all-at (λ f. eqb (wordOf a x f) 0) 8 f h l)
+      ]
