@@ -20,7 +20,7 @@ use Rattle.collector.specs.Objects.{txns}
 use Rattle.collector.specs.State as M
 use Rattle.collector.specs.State.{Colour, white, grey, some, Locks, Tables, Pass}
 use Rattle.shown.specs.Tables.{pageBit, objectBit, flagBit, colourOf, colourAtObject, locksOf, tablesOf, passOf}
-use Rattle.shown_pass.proofs.Kept.{Fixed, object-range, locks-kept, known-kept, dirty-kept, object-kept, flag-kept, colour-kept, pass-other, pass-phase, pass-page, pass-steps}
+use Rattle.shown_pass.proofs.Kept.{Fixed, object-range, locks-kept, known-kept, dirty-kept}
 use Rattle.shown_pass.proofs.Masks.{unflagged-bit, unflagged-anyb, some-is}
 use Rattle.shown_pass.proofs.Mark.{moved-locks, moved-tables, moved-pass}
 
