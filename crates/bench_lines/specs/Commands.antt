@@ -13,7 +13,7 @@ use Rattle.bench_lines.specs.declared.Number.the-variants.{Is, Not}
 use Rattle.bench_lines.specs.declared.Numbers.{Numbers}
 use Rattle.bench_lines.specs.declared.Numbers.the-variants.{Zero, One, Two, Three, Four, Bad}
 
--- the names
+-- the calls' names, which are exact: upper case and spaces are other bytes
 
 abbrev pub begin : List ℕ
 begin = bytes "begin"
@@ -73,23 +73,20 @@ same [] (b ∷ t) = false
 same (a ∷ s) [] = false
 same (a ∷ s) (b ∷ t) = eqb a b && same s t
 
--- the fields of a line, which commas part; an empty line has one empty field
+-- "unquoted RFC 4180 lines": commas part the fields; an empty line has one empty field
 unfoldable pub fieldsOf : List ℕ → List (List ℕ)
 fieldsOf [] = [] ∷ []
 fieldsOf (b ∷ bs) = if (eqb b comma) ([] ∷ fieldsOf bs) (onto b (fieldsOf bs))
 
--- the numbers so far, and one field more
+-- the numbers so far, and one field more; no call has a fifth
 abbrev pub andNumber : Numbers → Number → Numbers
+andNumber ns Not = Bad
 andNumber Zero (Is a) = One a
-andNumber Zero Not = Bad
 andNumber (One a) (Is b) = Two a b
-andNumber (One a) Not = Bad
 andNumber (Two a b) (Is c) = Three a b c
-andNumber (Two a b) Not = Bad
 andNumber (Three a b c) (Is d) = Four a b c d
-andNumber (Three a b c) Not = Bad
-andNumber (Four a b c d) n = Bad
-andNumber Bad n = Bad
+andNumber (Four a b c d) (Is e) = Bad
+andNumber Bad (Is a) = Bad
 
 -- the numbers so far, and those of the fields that follow
 unfoldable pub numbersFrom : Numbers → List (List ℕ) → Numbers
@@ -141,6 +138,6 @@ abbrev pub callOfFields : List (List ℕ) → Command
 callOfFields [] = NoCall
 callOfFields (name ∷ fs) = callOf name (numbersFrom Zero fs)
 
--- the command of a line, given without its end
+-- the command of a line, given without its end; NoCall is "a line that is no call"
 unfoldable pub commandOf : List ℕ → Command
 commandOf line = callOfFields (fieldsOf line)

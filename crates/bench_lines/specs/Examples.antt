@@ -4,7 +4,7 @@ use Prim.Native.String.{String}
 use mathlib.Core.Path.{_≡_, refl}
 use mathlib.Core.List.{List, [], _∷_, map}
 use Rattle.bench_lines.specs.Text.{bytes}
-use Rattle.bench_lines.specs.Numbers.{digitsFrom, startingWith, numberOf, digitsIn, decimal}
+use Rattle.bench_lines.specs.Numbers.{digitsFrom, numberOf, digitsIn, decimal}
 use Rattle.bench_lines.specs.Lines.{linesOf}
 use Rattle.bench_lines.specs.Commands.{same, fieldsOf, numbersFrom, callAlone, callOne, callTwo, callFour, commandOf}
 use Rattle.bench_lines.specs.Output.{outputLine}
@@ -75,7 +75,7 @@ table =
     ∷ []
 
 pub commands : map (λ (r : Row). commandOf (bytes (r .0))) table ≡ map (λ (r : Row). r .1) table
-unfolding table digitsFrom startingWith numberOf same fieldsOf numbersFrom callAlone callOne callTwo callFour commandOf
+unfolding table digitsFrom numberOf same fieldsOf numbersFrom callAlone callOne callTwo callFour commandOf
 commands = refl
 
 abbrev pub Input : Type 0

@@ -4,6 +4,8 @@ use mathlib.Core.Bool.{Bool, _&&_, cond as if}
 use mathlib.Core.List.{List, [], _∷_}
 use lib.Dec.{eqb}
 
+-- CRLF, a line's end
+
 abbrev pub cr : ℕ
 cr = 13
 
@@ -15,7 +17,7 @@ abbrev pub onto : ℕ → List (List ℕ) → List (List ℕ)
 onto b [] = (b ∷ []) ∷ []
 onto b (s ∷ ss) = (b ∷ s) ∷ ss
 
--- the input's lines, without their ends; a CR or an LF alone belongs to its line
+-- the input's lines, without their ends. A CR or an LF alone belongs to its line; an end at the input's end starts no further line
 unfoldable pub linesOf : List ℕ → List (List ℕ)
 linesOf [] = []
 linesOf (b ∷ []) = (b ∷ []) ∷ []

@@ -1,8 +1,9 @@
 -- Document 01, the bench program: "Numbers have no leading zeros and 32 bits."
 use Prim.Native.Nat.{ℕ, zero, suc, _+_, _-_, _*_, _/_, _%_}
-use mathlib.Core.Bool.{Bool, true, false, _&&_, cond as if}
+use mathlib.Core.Bool.{Bool, true, false, _&&_, _||_, cond as if}
 use mathlib.Core.List.{List, [], _∷_, _++_}
 use lib.Dec.{leb, ltb, eqb}
+use lib.ListN.{length, getD}
 use Rattle.bench_lines.specs.declared.Number.{Number}
 use Rattle.bench_lines.specs.declared.Number.the-variants.{Is, Not}
 
@@ -19,17 +20,15 @@ unfoldable pub digitsFrom : ℕ → List ℕ → Number
 digitsFrom n [] = Is n
 digitsFrom n (b ∷ bs) = if (isDigit b && leb (andDigit n b) 4294967295) (digitsFrom (andDigit n b) bs) Not
 
--- a first digit and the rest: no leading zero, so '0' stands alone
-unfoldable pub startingWith : ℕ → List ℕ → Number
-startingWith b [] = digitsFrom 0 (b ∷ [])
-startingWith b (c ∷ bs) = if (eqb b 48) Not (digitsFrom 0 (b ∷ c ∷ bs))
+-- a leading zero: the text starts with '0' and goes on
+abbrev pub zeroLeads : List ℕ → Bool
+zeroLeads s = eqb (getD s 0 0) 48 && ltb 1 (length s)
 
--- the number that the bytes of a field write; an empty field writes none
+-- the number that a field's bytes write, if they write one
 unfoldable pub numberOf : List ℕ → Number
-numberOf [] = Not
-numberOf (b ∷ bs) = startingWith b bs
+numberOf s = if (eqb (length s) 0 || zeroLeads s) Not (digitsFrom 0 s)
 
--- the decimal digits of n, of which there are at most so many
+-- the decimal digits of n, at most so many of them
 unfoldable pub digitsIn : ℕ → ℕ → List ℕ
 digitsIn zero n = []
 digitsIn (suc k) n = if (ltb n 10) ((48 + n) ∷ []) (digitsIn k (n / 10) ++ ((48 + n % 10) ∷ []))

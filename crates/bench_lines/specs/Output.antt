@@ -5,6 +5,6 @@ use Rattle.bench_lines.specs.Numbers.{decimal}
 use Rattle.bench_lines.specs.Lines.{cr, lf}
 use Rattle.bench_lines.specs.Commands.{comma}
 
--- line number n, answer a and value v in decimal, commas between, and the line's end
+-- line number n, answer a and value v, as a line of the input's form; every output line ends in CRLF
 unfoldable pub outputLine : ℕ → ℕ → ℕ → List ℕ
 outputLine n a v = decimal n ++ comma ∷ decimal a ++ comma ∷ decimal v ++ cr ∷ lf ∷ []

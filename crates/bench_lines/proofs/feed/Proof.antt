@@ -1,0 +1,41 @@
+-- `bench_lines::feed` meets its contract: the three ways of a byte.
+use mathlib.Core.Path.{sym, ap, _∙_}
+use Rattle.bench_lines.proofs.Steps.{withCr, going, fed-end, fed-cr, fed-byte}
+use Rattle.bench_lines.specs.Reading.{pushed}
+use Rattle.bench_lines.specs.declared.Line.{Line}
+use borrow.Author.Needs.{needs}
+use Rattle.bench_lines.proofs.feed.Statement.{statement}
+use Rattle.bench_lines.proofs.feed.Tie as tie
+
+held-requires : tie.Need-held-requires
+held-requires c κs = search needs
+
+no-line-requires : tie.Need-no-line-requires
+no-line-requires c κs = search needs
+
+returns : tie.Need-returns
+returns c = (cc) ∙ sym (fed-end _ _ (c .before .before .if1 .taken))
+
+settle-requires : tie.Need-settle-requires
+settle-requires c κs = search needs
+
+returns-2 : tie.Need-returns-2
+returns-2 c = ap (λ (l : Line). going (withCr l)) (c .before .before .settle .ensures) ∙ sym (fed-cr _ _ (c .before .before .before .if1 .left) (c .before .if2 .taken))
+
+push-requires : tie.Need-push-requires
+push-requires c κs = search needs
+
+returns-3 : tie.Need-returns-3
+returns-3 c = ap going (c .push .ensures ∙ ap (λ (l : Line). pushed l (c .before .before .before .before .args .b)) (c .before .before .settle .ensures)) ∙ sym (fed-byte _ _ (c .before .before .before .if1 .left) (c .before .if2 .left))
+
+pub feed-spec : {M : Type 1} → statement M
+feed-spec =
+    tie.close
+    (tie.spec
+    held-requires
+    no-line-requires
+    returns
+    settle-requires
+    returns-2
+    push-requires
+    returns-3)

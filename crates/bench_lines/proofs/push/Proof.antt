@@ -1,0 +1,23 @@
+-- `bench_lines::push` meets its contract: with room, and without.
+use borrow.Author.Tests.{lt-ltb, le-ltb}
+use Rattle.bench_lines.specs.Reading.{pushed}
+use borrow.Author.Needs.{needs}
+use Rattle.bench_lines.proofs.push.Statement.{statement}
+use Rattle.bench_lines.proofs.push.Tie as tie
+
+array-write-w : tie.Need-array-write-w
+array-write-w c = search needs
+
+add-t9 : tie.Need-add-t9
+add-t9 c = search needs
+
+returns : tie.Need-returns
+unfolding pushed
+returns c = rw (lt-ltb _ 64 (c .if1 .taken))
+
+returns-2 : tie.Need-returns-2
+unfolding pushed
+returns-2 c = rw (le-ltb _ 64 (c .if1 .left))
+
+pub push-spec : {M : Type 1} → statement M
+push-spec = tie.close (tie.spec array-write-w add-t9 returns returns-2)
