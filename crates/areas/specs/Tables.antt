@@ -62,7 +62,8 @@ isGrey w n o = eqb (at w (colourAt n o)) 1
 abbrev pub coloured : List ℕ → ℕ → ℕ → ℕ → List ℕ
 coloured w n o c = set w (colourAt n o) c
 
--- the first page of a pass and the page at which it ends, and the objects that it may mark: all of the store
+-- the first page of a pass and the page at which it ends, and the objects that it may mark: all of the store. w: the working tables, of
+-- which a later request may ask for a part of the store
 abbrev pub passFirst : List ℕ → ℕ → ℕ
 passFirst w n = 0
 
@@ -80,6 +81,6 @@ greyed w n o = let v = coloured w n o 1 in if (mayMark w n o && isWhite w n o) v
 abbrev pub withPass : List ℕ → ℕ → ℕ → ℕ → List ℕ
 withPass w phase page steps = set (set (set w phaseAt phase) passPageAt page) stepsAt steps
 
--- one more step; at the bound, which no calls lead to, the step number stays
+-- one more step; a step at the bound that does not end the pass, which no calls lead to, leaves the step number
 abbrev pub stepsNext : List ℕ → ℕ → ℕ
 stepsNext w n = min (at w stepsAt + 1) (17 * n)

@@ -30,7 +30,7 @@ readCheck s n t o =
     (need (canRead (s .work) n t (pageOf o)) NotLocked
     (need (knows (s .work) n t o) Unknown Pass)))
 
--- 'the references other than 0 become known': those of the first k words
+-- 'the references other than 0 become known': those among the first k words, data words passed over
 unfoldable pub learned : List ℕ → List ℕ → ℕ → ℕ → ℕ → ℕ → List ℕ
 learned received w n t o zero = w
 learned received w n t o (suc f) =

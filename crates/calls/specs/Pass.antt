@@ -47,7 +47,7 @@ callPass s = entering (readiness true true s) s (λ n. checked (passCheck s) s (
 unfoldable pub lowestGrey : List ℕ → ℕ → ℕ
 lowestGrey w n = lowest (λ k. isGrey w n (k + 1)) (16 * n) + 1
 
--- 'its white targets turn grey': those of the first k words of object o in the copies
+-- 'its white targets turn grey': those of the references among the first k words of object o in the copies
 unfoldable pub targetsGreyed : List ℕ → List ℕ → ℕ → ℕ → ℕ → List ℕ
 targetsGreyed copies w n o zero = w
 targetsGreyed copies w n o (suc f) =
@@ -84,7 +84,7 @@ freedMap s n p = let m = sweepMap (s .copies) (s .work) n p in if (locked (s .wo
 
 -- 'page 0 upward'; 'After page P − 1 the pass is over.'
 unfoldable pub advanced : List ℕ → ℕ → ℕ → List ℕ
-advanced w n p = let on = withPass w 2 (p + 1) (stepsNext w n) in let over = withPass w 0 0 0 in if (ltb (p + 1) (passEnd w n)) on over
+advanced w n p = let on = withPass w 2 (p + 1) (stepsNext w n) in let end = withPass w 0 0 0 in if (ltb (p + 1) (passEnd w n)) on end
 
 -- a sweep needs 1 record's room 'if there are any' slots to free
 unfoldable pub sweepCheck : Areas → ℕ → Check
