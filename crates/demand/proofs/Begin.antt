@@ -1,0 +1,173 @@
+-- An accepted begin keeps the invariant. n is the number of pages. Assumes nothing.
+use Prim.Native.Nat.{ℕ, suc, _+_, _≤_}
+use native.Mathlib.Omega.{arith}
+use native.Mathlib.Decide.{ℕ-discrete}
+use mathlib.Core.Path.{_≡_, refl, sym, ap, _∙_}
+use mathlib.Core.Bool.{Bool, true, false, not, _||_}
+use mathlib.Core.List.{List, _∷_}
+use mathlib.Core.Logic.{inl, inr}
+use lib.ListN.{length}
+use lib.Dec.{eqb}
+use borrow.Author.Tests.{eqb-true, eq-eqb, lt-ltb}
+use Rattle.words.specs.Tests.{by-bool, clash}
+use Rattle.words.specs.Bits.{bit-with}
+use Rattle.pages.specs.Geometry.{root}
+use Rattle.records.specs.Records.{beginOf}
+use Rattle.records.specs.Effects.{effect}
+use Rattle.records.specs.Order.{openIn}
+use Rattle.areas.specs.Answers.{accepted}
+use Rattle.areas.specs.Areas.{Areas, Out, receivedCount, withWork, appended}
+use Rattle.areas.specs.Layout.{activeAt}
+use Rattle.areas.specs.Tables.{gain}
+use Rattle.calls.specs.Calls.{begin}
+use Rattle.calls.specs.Transactions.{callBegin, begun, knowsRoot}
+use Rattle.acceptance.specs.Entered.{Open, opened}
+use Rattle.acceptance.specs.Transactions as Accepted
+use Rattle.book.specs.Lines.{line}
+use Rattle.book.specs.Books.{Book}
+use Rattle.book.specs.Feeding.{fed, begins, put}
+use Rattle.collector.specs.Bits.{_or_, or-l, or-r, or-cases}
+use Rattle.collector.specs.State.{St, Locks, Tables}
+use Rattle.collector.specs.Calls as Calls
+use Rattle.collector.proofs.Invariant as Collector
+use Rattle.collector.proofs.Locking.{keep-begin}
+use Rattle.views.specs.View.{view}
+use Rattle.shown.specs.Tables.{locksOf, tablesOf}
+use Rattle.shown.proofs.Frames.{reopening-kept}
+use Rattle.shown.proofs.Begun.{begin-beside}
+use Rattle.shown.proofs.Facts.{act-is, begin-facts}
+use Rattle.shown.proofs.Shows.{Shows, begin-shows}
+use Rattle.recovery.proofs.Invariant as Recovery
+use Rattle.recovery.proofs.Steps.{logOf, log-begin}
+use Rattle.book_laws.specs.Seen.{Seen, seenCommitted, seenFull}
+use Rattle.book_laws.specs.Keeping.{Runs, Writers}
+use Rattle.book_laws.proofs.Soundness.{begin-sound}
+use Rattle.book_laws.proofs.Feeding.{begin-committed, begin-full}
+use Rattle.book_laws.proofs.Invariant.{begin-inv}
+use Rattle.book_laws.proofs.Openness as Openness
+use Rattle.demand.proofs.State.{machine, received, OpenInv}
+use Rattle.demand.proofs.Change.{machine-shows}
+use Rattle.demand.proofs.Bound.{Bounding, bound-sound, bound-full, bound-log}
+
+either : (a b : Bool) → (a || b) ≡ (a or b)
+unfolding _or_
+either true b = refl
+either false b = refl
+
+module _ (n : ℕ) (some : 1 ≤ n) (s : Areas) (b : Book) (i : OpenInv n s b) (h : Open s n) (t : ℕ) (f : Accepted.BeginFacts s t) where
+  abbrev w : List ℕ
+  w = knowsRoot (gain (s .work) activeAt t) n t
+
+  abbrev s′ : Areas
+  s′ = withWork (appended s (beginOf t)) w
+
+  abbrev b′ : Book
+  b′ = begins b t
+
+  act : locksOf (s .work) n .act t ≡ false
+  act = act-is s n (machine n s b) (machine-shows n s b) t (f .txn) ∙ f .inactive
+
+  idle : b .running t ≡ 0
+  idle = elim (ℕ-discrete (b .running t) 0) [ yes e ↦ e | no e ↦ clash (i .runs t e) act ]
+
+  committed-same : (x : ℕ) → seenCommitted b′ x ≡ seenCommitted b x
+  committed-same x = begin-committed b (i .book) t (f .txn) idle .shows x
+
+  full-same : (x : ℕ) → seenFull b′ x ≡ seenFull b x
+  full-same x = begin-full b (i .book) t (f .txn) idle x
+
+  -- the collector's state then
+  abbrev st : St
+  st = Calls.begun (machine n s b) t (suc (suc (length (b .lines))))
+
+  shows : Shows w n st
+  shows = begin-shows (s .work) n (h .sized .work-len) (machine n s b) (machine-shows n s b) some t (suc (suc (length (b .lines)))) (f .txn)
+
+  collector-after : Collector.Inv (machine n s′ b′)
+  unfolding appended
+  collector-after = Collector.same st (machine n s′ b′) refl
+      (λ z. record { cmt = λ x. committed-same x z .object; rec = λ x. full-same x z .object; cop = view (s .copies) })
+      (λ z. record { cmtTag = λ x. committed-same x z .tag; recTag = λ x. full-same x z .tag; now = suc (suc (length (b .lines))) })
+      (sym (shows .locks)) (sym (shows .tables)) (sym (shows .pass))
+      (keep-begin (machine n s b) t _ (begin-facts s n (machine n s b) (machine-shows n s b) t _ f (omega arith)) (i .collector))
+
+  -- the tables then
+  act-after : (u : ℕ) → locksOf w n .act u ≡ (locksOf (s .work) n .act u or eqb u t)
+  act-after u = sym (ap (λ (l : Locks). l .act u) (shows .locks))
+
+  wr-after : (u p : ℕ) → locksOf w n .wr u p ≡ locksOf (s .work) n .wr u p
+  wr-after u p = sym (ap (λ (l : Locks). l .wr u p) (shows .locks))
+
+  known-after : (u x : ℕ) → put (b .known) t (eqb root) u x ≡ true → tablesOf w n .kn u x ≡ true
+  known-after u x k = sym (ap (λ (a : Tables). a .kn u x) (shows .tables)) ∙ by-bool (eqb u t)
+      (λ e. rw e (eq-eqb x 1 (sym (eqb-true root x (rw e at k)))))
+      (λ e. rw e (i .known u x (rw e at k)))
+
+  active-after : (u : ℕ) → locksOf w n .act u ≡ true → Runs b′ u
+  active-after u k = by-bool (eqb u t)
+      (λ e. rw e (λ z. omega arith))
+      (λ e. rw e (i .active u (elim (or-cases _ _ (sym (act-after u) ∙ k)) [ inl q ↦ q | inr q ↦ clash q e ])))
+
+  runs-after : (u : ℕ) → Runs b′ u → locksOf w n .act u ≡ true
+  runs-after u r = act-after u ∙ by-bool (eqb u t)
+      (λ e. or-r _ _ e)
+      (λ e. or-l _ _ (i .runs u (rw e at r)))
+
+  writers-after : Writers b′ (locksOf w n .wr)
+  writers-after = record {
+    writes = λ u x e. wr-after u _ ∙ i .writers .writes u x (Openness.open-begin b (i .book) t u x e);
+    one = λ u v p x y. i .writers .one u v p (sym (wr-after u p) ∙ x) (sym (wr-after v p) ∙ y);
+  }
+
+  -- the log then
+  bounding : Bounding n s b (beginOf t) (line (beginOf t) (b .begun + 1)) w b′
+  unfolding effect
+  bounding = record {
+    entry = refl;
+    lines = refl;
+    stable = refl;
+    room = let q = f .room in omega arith;
+    ok = begin-sound n t (lt-ltb t 16 (f .txn));
+    order = ap not (i .log .open-ones t (f .txn) ∙ act);
+    still = refl;
+    full = λ x. ap (λ (v : Seen). v .object) (full-same x);
+    opens = λ u l. bit-with (openIn (s .log) (receivedCount s)) t u ∙ ap (λ (z : Bool). z || eqb u t) (i .log .open-ones u l) ∙ either _ _ ∙ sym (act-after u);
+  }
+
+  inv-after : Recovery.Inv (i .base) (logOf (λ x. seenFull b′ x .object) (λ x. seenCommitted b′ x .object) (locksOf w n .wr) (locksOf w n .act) (beginOf t ∷ received s))
+  inv-after = Recovery.carried (i .base) _ _
+      (λ x. sym (ap (λ (v : Seen). v .object) (full-same x)))
+      (λ x. sym (ap (λ (v : Seen). v .object) (committed-same x)))
+      (λ u p. sym (wr-after u p))
+      (λ u. sym (act-after u))
+      refl
+      (log-begin (i .base) _ _ _ _ (received s) (i .log .inv) t act)
+
+  begun-inv : OpenInv n s′ b′
+  unfolding appended
+  begun-inv = record {
+    size = i .size;
+    stage = i .stage;
+    word = reopening-kept (begin-beside (s .work) n t some) n (omega arith) .0 ∙ i .word;
+    collector = collector-after;
+    book = begin-inv b (i .book) t (f .txn) idle;
+    sound = bound-sound n some s b i h _ _ w b′ bounding;
+    full = bound-full n some s b i h _ _ w b′ bounding;
+    known = known-after;
+    active = active-after;
+    runs = runs-after;
+    writers = writers-after;
+    base = i .base;
+    log = bound-log n some s b i h _ _ w b′ bounding inv-after collector-after;
+  }
+
+pub open-begin : (n : ℕ) → 1 ≤ n → (s : Areas) (b : Book) → OpenInv n s b → (t : ℕ) → accepted (callBegin s t .answer) ≡ true
+    → OpenInv n (callBegin s t .after) (fed n b (begin t) (s .received) (callBegin s t .after .received))
+unfolding fed begun
+open-begin n some s b i t a =
+    let k = Accepted.begin-outcome s t .ran a in
+    let o = opened true s (k .n) (k .ready) in
+    let e : k .n ≡ n = sym (o .sized .count) ∙ i .size in
+    let h : Open s n = rw e at o in
+    let g : callBegin s t .after ≡ begun s n t = ap (λ (q : Out). q .after) (k .gives) ∙ ap (λ (m : ℕ). begun s m t) e in
+    rw g (begun-inv n some s b i h t (Accepted.begin-facts s t (k .passed)))

@@ -1,0 +1,120 @@
+-- An accepted create keeps the invariant. n is the number of pages. Assumes nothing.
+use Prim.Native.Nat.{ℕ, suc, _≤_, _<_}
+use native.Mathlib.Omega.{arith}
+use mathlib.Core.Path.{_≡_, refl, sym, ap, _∙_}
+use mathlib.Core.Bool.{true, not, cond, _&&_}
+use mathlib.Core.List.{List, []}
+use mathlib.Core.Logic.{inl, inr}
+use lib.ListN.{length}
+use lib.Dec.{eqb}
+use borrow.Author.Tests.{eqb-true, eq-eqb, lt-ltb}
+use Rattle.words.specs.Tests.{all, all-at, and-split, or-cases, by-bool, clash}
+use Rattle.pages.specs.Geometry.{root, pageOf}
+use Rattle.pages.specs.Objects.{occupied}
+use Rattle.pages.specs.Soundness.{mapSound, refsSound, freeZero, pageSound, areaSound}
+use Rattle.records.specs.Records.{createOf}
+use Rattle.areas.specs.Answers.{accepted}
+use Rattle.areas.specs.Areas.{Areas, Out}
+use Rattle.calls.specs.Calls.{create}
+use Rattle.calls.specs.Objects.{created, callCreate}
+use Rattle.acceptance.specs.Entered.{Open, opened}
+use Rattle.acceptance.specs.Objects as Accepted
+use Rattle.acceptance.specs.Objects.{create-outcome}
+use Rattle.book.specs.Books.{Book}
+use Rattle.book.specs.Feeding.{fed, adds, learns}
+use Rattle.collector.specs.Bits.{or-l, or-r, and-intro}
+use Rattle.collector.specs.Objects.{blank, fresh, bornAt}
+use Rattle.collector.specs.State.{Tables, add}
+use Rattle.collector.specs.Calls as C
+use Rattle.collector.proofs.Invariant as Collector
+use Rattle.collector.proofs.Create.{keep-create}
+use Rattle.shown.specs.Tables.{tablesOf}
+use Rattle.shown.proofs.Frames.{wider, is-object}
+use Rattle.shown.proofs.Facts as Facts
+use Rattle.shown.proofs.Created.{makes, create-beside, create-tables}
+use Rattle.shown.proofs.Shows.{create-shows}
+use Rattle.recovery.proofs.Reversal.{view-free, create-back}
+use Rattle.book_laws.specs.Seen.{Seen, acted, seenFull}
+use Rattle.book_laws.proofs.Acts.{create-acts}
+use Rattle.book_laws.proofs.Soundness.{create-sound}
+use Rattle.book_laws.proofs.Fed.{fed-inv}
+use Rattle.demand.proofs.State.{machine, OpenInv}
+use Rattle.demand.proofs.Change.{machine-shows, full-shown, Changing, change-runs, collector-after, open-change}
+
+-- what a sound area says of the root and of free slots
+root-there : (n : ℕ) (a : List ℕ) → areaSound a n ≡ true → occupied a root ≡ true
+unfolding areaSound
+root-there n a h = and-split (all (pageSound a n) n) (occupied a root) h .1
+
+free-zero : (n : ℕ) (a : List ℕ) → areaSound a n ≡ true → (p : ℕ) → p < n → freeZero a p ≡ true
+unfolding areaSound pageSound
+free-zero n a h p l = and-split (mapSound a p && refsSound a n p) (freeZero a p) (all-at (pageSound a n) n p (and-split (all (pageSound a n) n) (occupied a root) h .0) l) .1
+
+-- what a create makes of an object, as the machine says it
+created-at : (m t o x : ℕ) (v : Seen) → acted m (createOf t o) x v ≡ record { object = cond (eqb x o) fresh (v .object); tag = cond (eqb x o) (bornAt m) (v .tag) }
+created-at m t o x v = create-acts m x v t o ∙ by-bool (eqb x o) (λ e. rw e refl) (λ e. rw e refl)
+
+module _ (n : ℕ) (some : 1 ≤ n) (s : Areas) (b : Book) (i : OpenInv n s b) (h : Open s n) (t o : ℕ) (f : Accepted.CreateFacts s n t o) where
+  abbrev w : List ℕ
+  w = makes (s .work) n t o
+
+  abbrev m : ℕ
+  m = suc (length (b .lines))
+
+  not-root : not (eqb o root) ≡ true
+  not-root = by-bool (eqb o root)
+      (λ e. clash (root-there n (s .received) (h .ranged .received-sound)) (ap (occupied (s .received)) (sym (eqb-true o root e)) ∙ f .free))
+      (λ e. rw e refl)
+
+  was-blank : seenFull b o .object ≡ blank
+  was-blank = full-shown n some s b i o
+      ∙ view-free (s .received) o (f .object .low) (f .free) (free-zero n (s .received) (h .ranged .received-sound) (pageOf o) (f .object .page))
+
+  changing : Changing n s b t (createOf t o) w
+  changing = record {
+    kind = inl refl;
+    txn = refl;
+    small = f .txn;
+    active = f .active;
+    ok = create-sound n t (lt-ltb t 16 (f .txn)) o (is-object n o (f .object .low) (f .object .top)) not-root;
+    room = f .room;
+    own = Facts.own-is s n (machine n s b) (machine-shows n s b) t o (f .txn) (f .object) (f .lock);
+    back = create-back (createOf t o) (seenFull b o .object) refl was-blank;
+    beside = wider (create-beside (s .work) n t o (f .object .low) (f .object .top)) (omega arith) (omega arith);
+  }
+
+  machine-kept : Collector.Inv (C.created (machine n s b) t o m)
+  machine-kept = keep-create (machine n s b) t o m
+      (Facts.create-facts s n (machine n s b) (machine-shows n s b) t o m (full-shown n some s b i o) f (omega arith)) (i .collector)
+
+  -- what t knows
+  knows : (u x : ℕ) → tablesOf w n .kn u x ≡ add (tablesOf (s .work) n .kn) t o u x
+  knows u x = ap (λ (b : Tables). b .kn u x) (create-tables (s .work) n t o (f .object .low) (f .object .top) (h .sized .work-len) (f .txn))
+
+  known-after : (u x : ℕ) → learns (adds b t (createOf t o)) t (eqb o) .known u x ≡ true → tablesOf w n .kn u x ≡ true
+  known-after u x q = knows u x ∙ by-bool (eqb u t)
+      (λ e. elim (or-cases (b .known t x) (eqb o x) (rw e at q)) [
+        | inl d ↦ or-l _ _ (i .known u x (ap (λ (v : ℕ). b .known v x) (eqb-true u t e) ∙ d))
+        | inr d ↦ or-r _ _ (and-intro _ _ e (eq-eqb x o (sym (eqb-true o x d))))
+      ])
+      (λ e. or-l _ _ (i .known u x (rw e at q)))
+
+  create-kept : OpenInv n (created s n t o) (learns (adds b t (createOf t o)) t (eqb o))
+  unfolding created fed
+  create-kept = let c = changing in let k = learns (adds b t (createOf t o)) t (eqb o) .known in
+      open-change n some s b i h t (createOf t o) w c k
+      (collector-after n some s b i h t (createOf t o) w c k (C.created (machine n s b) t o m)
+      (create-shows (s .work) n (h .sized .work-len) (machine n s b) (machine-shows n s b) t o (f .txn) (f .object .low) (f .object .top) m)
+      machine-kept _ _ refl refl (λ x. created-at m t o x (seenFull b x)))
+      (fed-inv n b (create t o) [] [] (i .book) (change-runs n some s b i h t (createOf t o) w c k))
+      known-after
+
+pub open-create : (n : ℕ) → 1 ≤ n → (s : Areas) (b : Book) → OpenInv n s b → (t o : ℕ) → accepted (callCreate s t o .answer) ≡ true
+    → OpenInv n (callCreate s t o .after) (fed n b (create t o) (s .received) (callCreate s t o .after .received))
+unfolding fed
+open-create n some s b i t o a =
+    let k = create-outcome s t o .ran a in
+    let h = opened true s (k .n) (k .ready) in
+    let e : k .n ≡ n = sym (h .sized .count) ∙ i .size in
+    let g : callCreate s t o .after ≡ created s n t o = ap (λ (x : Out). x .after) (k .gives) ∙ ap (λ (p : ℕ). created s p t o) e in
+    rw g (create-kept n some s b i (rw e at h) t o (rw e at (Accepted.create-facts s (k .n) t o (k .passed))))

@@ -1,0 +1,106 @@
+-- A call that appends one record: the log's part of the invariant after it. n is the number of pages. Assumes nothing.
+use Prim.Native.Nat.{ℕ, zero, suc, _+_, _*_, _-_, _≤_, _<_}
+use native.Mathlib.Omega.{arith}
+use native.Mathlib.Numerals.{add-one}
+use mathlib.Core.Path.{_≡_, refl, sym, ap, _∙_}
+use mathlib.Core.Bool.{Bool, true, false, _||_}
+use mathlib.Core.List.{List, [], _∷_}
+use lib.ListN.{length, take, drop}
+use Rattle.words.specs.Bits.{bit}
+use Rattle.records.specs.declared.Record.{Record}
+use Rattle.records.specs.Records.{recordAt, recorded}
+use Rattle.record_laws.specs.RecordLaws.{recorded-same, recorded-other}
+use Rattle.records.specs.Soundness.{recordSound}
+use Rattle.records.specs.Order.{openIn, inOrder, logSound}
+use Rattle.areas.specs.Areas.{Areas, receivedCount, stableCount}
+use Rattle.book.specs.Lines.{Line, pagesAfter}
+use Rattle.book.specs.Books.{Book, committedLines, committedPages, countsCommitted}
+use Rattle.book.specs.Pointers.{Leads}
+use Rattle.collector.specs.Objects.{Obj}
+use Rattle.collector.proofs.Invariant as Collector
+use Rattle.collector.proofs.Safety.{sound}
+use Rattle.views.specs.View.{view}
+use Rattle.shown.specs.Tables.{locksOf}
+use Rattle.recovery.specs.Lines as Log
+use Rattle.recovery.specs.Shapes.{shapes, recs}
+use Rattle.recovery.proofs.Appending.{recs-same, recs-more, log-more}
+use Rattle.recovery.proofs.Decided.{SameCells}
+use Rattle.recovery.proofs.Invariant as Recovery
+use Rattle.book_laws.specs.Seen.{counted, committedOf, seen, seenCommitted}
+use Rattle.book_laws.specs.Striking.{entries}
+use Rattle.book_laws.specs.Keeping.{SoundLines}
+use Rattle.demand.proofs.State.{machine, received, stable, logged, LogInv}
+use Rattle.demand.proofs.Pointing.{leads-out}
+
+-- the committed pointers lead where the collector's invariant holds
+pub machine-leads : (n : ℕ) → 1 ≤ n → (s : Areas) (b : Book) → Collector.Inv (machine n s b) → SoundLines n (b .lines) → Leads (pagesAfter n (committedOf (b .lines))) (committedOf (b .lines))
+unfolding committedOf
+machine-leads n some s b i ok = leads-out n some (counted (b .lines)) (b .lines) ok (sound (machine n s b) i .committed) (i .whole .wf)
+
+-- the records of a log with r behind the first c
+module _ (g : List ℕ) (c : ℕ) (r : Record) (long : 6 * c + 6 ≤ length g) where
+  older : (i : ℕ) → i < c → recordAt (recorded g c r) i ≡ recordAt g i
+  older i l = recorded-other g c r i (λ z. omega arith)
+
+  pub records-more : recs (recorded g c r) (c + 1) ≡ r ∷ recs g c
+  records-more = ap (recs (recorded g c r)) (add-one c) ∙ recs-more g (recorded g c r) c r older (recorded-same g c r long)
+
+  pub records-below : (k : ℕ) → k ≤ c → recs (recorded g c r) k ≡ recs g k
+  records-below k l = recs-same (recorded g c r) g k (λ i m. older i (omega arith))
+
+  pub order-more : (n : ℕ) → logSound n g c ≡ true → recordSound n r ≡ true → inOrder (openIn g c) r ≡ true → logSound n (recorded g c r) (c + 1) ≡ true
+  order-more n h k o = rw (add-one c) (log-more g (recorded g c r) c r older (recorded-same g c r long) n h k o)
+
+-- the areas s′ and the book b′ after a call that appends r, with its line l
+pub record Appends (n : ℕ) (s : Areas) (b : Book) (r : Record) (l : Line) (s′ : Areas) (b′ : Book) : Type 0 where
+  pub entry : l .entry ≡ r
+  pub log : s′ .log ≡ recorded (s .log) (receivedCount s) r
+  pub count : receivedCount s′ ≡ receivedCount s + 1
+  pub stable-count : stableCount s′ ≡ stableCount s
+  pub stored : s′ .stored ≡ s .stored
+  pub lines : b′ .lines ≡ l ∷ b .lines
+  pub stable : b′ .stable ≡ b .stable
+  pub long : 6 * receivedCount s + 6 ≤ length (s .log)
+  pub ok : recordSound n r ≡ true
+  pub order : inOrder (openIn (s .log) (receivedCount s)) r ≡ true
+
+module _ (n : ℕ) (some : 1 ≤ n) (s : Areas) (b : Book) (base : ℕ → Obj) (i : LogInv n s b base) (r : Record) (l : Line) (s′ : Areas) (b′ : Book) (a : Appends n s b r l s′ b′) where
+  received-more : received s′ ≡ r ∷ received s
+  received-more = rw (a .log, a .count) (records-more (s .log) (receivedCount s) r (a .long))
+
+  stable-kept : stable s′ ≡ stable s
+  stable-kept = rw (a .log, a .stable-count) (records-below (s .log) (receivedCount s) r (a .long) (stableCount s) (i .stable-few))
+
+  entries-more : entries (take (receivedCount s′) (b′ .lines)) ≡ received s′
+  unfolding entries
+  entries-more = let e : entries (take (receivedCount s′) (b′ .lines)) ≡ r ∷ received s = rw (a .count, add-one (receivedCount s), a .lines, a .entry, i .same) refl in
+      e ∙ sym received-more
+
+  parts : Recovery.Inv base (logged n s′ b′) → (j : ℕ) → j ≤ receivedCount s′ - stableCount s′ → (x : ℕ)
+      → Log.book base x Log.nobody (shapes (drop j (received s′))) ≡ seen (counted (drop j (b′ .lines))) (drop j (b′ .lines)) x .object
+  parts h zero k x = h .booked x
+  parts h (suc j) k x = rw (received-more, a .lines) (i .part j (let e = a .count in let d = a .stable-count in let m = i .stable-few in omega arith) x)
+
+  all-lead : Collector.Inv (machine n s′ b′) → SoundLines n (b′ .lines) → (j : ℕ) → j ≤ receivedCount s′ - stableCount s′
+      → Leads (pagesAfter n (committedOf (drop j (b′ .lines)))) (committedOf (drop j (b′ .lines)))
+  all-lead h ok zero k = machine-leads n some s′ b′ h ok
+  all-lead h ok (suc j) k = rw (a .lines) (i .leads j (let e = a .count in let d = a .stable-count in let m = i .stable-few in omega arith))
+
+  -- the log's part of the invariant after it
+  pub log-after : Recovery.Inv base (logged n s′ b′) → Collector.Inv (machine n s′ b′) → SoundLines n (b′ .lines)
+      → ((t : ℕ) → t < 16 → bit (openIn (s′ .log) (receivedCount s′)) t ≡ locksOf (s′ .work) n .act t)
+      → SameCells (received s′) (view (s′ .copies)) base
+      → LogInv n s′ b′ base
+  log-after h m ok opens copies = record {
+    inv = h;
+    few = rw (a .lines) (let e = a .count in let f = i .few in omega arith);
+    same = entries-more;
+    stable-few = let e = a .count in let d = a .stable-count in let f = i .stable-few in omega arith;
+    stable-same = rw (a .lines, a .stable) (let e = a .count in let d = a .stable-count in let f = i .stable-few in let g = i .stable-same in omega arith);
+    order = rw (a .log, a .count) (order-more (s .log) (receivedCount s) r (a .long) n (i .order) (a .ok) (a .order));
+    open-ones = opens;
+    part = parts h;
+    leads = all-lead m ok;
+    stored = rw (stable-kept, a .stored) (i .stored);
+    copies = copies;
+  }

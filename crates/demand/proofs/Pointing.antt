@@ -1,0 +1,142 @@
+-- Reaching and leading in the claim's words, and in the machine's: the same for the pages that lines show. n is the number of pages.
+-- Assumes nothing.
+use Prim.Native.Nat.{ℕ, zero, suc, _+_, _*_, _≤_, _<_}
+use native.Mathlib.Omega.{arith}
+use mathlib.Core.Path.{_≡_, refl, sym, ap, _∙_}
+use mathlib.Core.Bool.{Bool, true, false, not, cond, _&&_, _||_}
+use mathlib.Core.List.{List, [], _∷_}
+use mathlib.Core.Logic.{_⊎_, inl, inr}
+use lib.ListN.{length}
+use lib.Dec.{eqb, ltb, leb}
+use borrow.Author.Tests.{eqb-true, eqb-false, eq-eqb, ne-eqb, ltb-true, not-true}
+use Rattle.words.specs.Tests.{if, by-bool, clash}
+use Rattle.pages.specs.Geometry.{isRef, isRefAt}
+use Rattle.pages.specs.Objects.{occupied, wordOf}
+use Rattle.records.specs.declared.Record.{Record}
+use Rattle.records.specs.Soundness.{recordSound}
+use Rattle.book.specs.Lines.{Line, filtered, pagesAfter}
+use Rattle.book.specs.Pointers.{Refers, Reached, root, next, Leads}
+use Rattle.collector.specs.Bits.{_and_, anyb, anyb-elim, and-l, and-r}
+use Rattle.collector.specs.Objects as O
+use Rattle.collector.specs.Objects.{Obj, Tag, points, Reach, edge, Whole}
+use Rattle.collector.specs.Claim as Claim
+use Rattle.collector.proofs.Objects.{points-some, points-occ, word-edge, ref-field}
+use Rattle.views.specs.View.{view, applied, names}
+use Rattle.views.proofs.Sound.{SoundRecord, sound-record}
+use Rattle.recovery.proofs.Reversal.{view-occ, view-word}
+use Rattle.book_laws.specs.Seen.{seen, first, acted}
+use Rattle.book_laws.specs.Keeping.{In, here, later, SoundLines}
+use Rattle.book_laws.proofs.Folds.{after-view}
+use Rattle.book_laws.proofs.Tags.{born-old, unbroken-tag, tag-unbroken}
+
+-- both kinds of 'is a reference' are the word's number below 4
+same-ref : (a : List ℕ) (b : Obj) (o f : ℕ) → isRef a o f ≡ O.isRef b f
+unfolding isRefAt O.isRef
+same-ref a b o f = refl
+
+-- what an edge of the machine says
+pub edge-word : {A : Type 0} (b : Obj) (x : ℕ) → points b x ≡ true → ((f : ℕ) → f < 8 → O.isRef b f ≡ true → b .word f ≡ x → A) → A
+unfolding points O.fields
+edge-word b x h k = anyb-elim 8 _ (and-r _ _ h) (λ f l e. k f l (and-l _ _ e) (eqb-true _ _ (and-r _ _ e)))
+
+ref-four : (b : Obj) (f : ℕ) → O.isRef b f ≡ true → f < 4
+unfolding O.isRef
+ref-four b f h = ltb-true f 4 h
+
+ref-small : (b : Obj) (f : ℕ) → O.isRef b f ≡ true → f < 8
+ref-small b f h = let k = ref-four b f h in omega arith
+
+first-word : (x f : ℕ) → first x .object .word f ≡ 0
+unfolding O.fresh O.blank
+first-word x f = by-bool (eqb x 1) (λ e. rw e refl) (λ e. rw e refl)
+
+put-range : (b : Obj) (g v f m : ℕ) → b .word f ≤ m → (f ≡ g → v ≤ m) → O.put b g v .word f ≤ m
+unfolding O.put
+put-range b g v f m h k = by-bool (eqb f g) (λ e. rw e (k (eqb-true f g e))) (λ e. rw e h)
+
+-- a sound record writes references of the store
+applied-range : {n : ℕ} (r : Record) → SoundRecord n r → (x : ℕ) (b : Obj) (f : ℕ) → f < 4 → b .word f ≤ 16 * n → applied r x b .word f ≤ 16 * n
+unfolding applied O.fresh O.blank
+applied-range {n} r h x b f l k = by-bool (names 2 r x)
+    (λ e. rw e (omega arith))
+    (λ e. rw e (by-bool (names 3 r x)
+    (λ d. rw d (put-range b (r .field) (r .new) f (16 * n) k (λ z. h .new (eqb-true (r .kind) 3 (Rattle.words.specs.Tests.and-l (eqb (r .kind) 3) (eqb (r .object) x) d)) (omega arith))))
+    (λ d. rw d (by-bool (names 6 r x || Rattle.book.specs.Pointers.sweeps r x) (λ q. rw q (omega arith)) (λ q. rw q k)))))
+
+module _ (n : ℕ) (some : 1 ≤ n) (c : Line → Bool) (ls : List Line) (ok : SoundLines n ls) where
+  abbrev pub pages : List ℕ
+  pages = pagesAfter n (filtered c ls)
+
+  abbrev pub object : ℕ → Obj
+  object x = seen c ls x .object
+
+  abbrev pub tag : ℕ → Tag
+  tag x = seen c ls x .tag
+
+  shows : (x : ℕ) → view pages x ≡ object x
+  shows x = after-view n some c ls (λ l i e. ok l i) x
+
+  occ-is : (x : ℕ) → 1 ≤ x → object x .occ ≡ occupied pages x
+  occ-is x l = ap (λ (b : Obj). b .occ) (sym (shows x)) ∙ view-occ pages x l
+
+  word-is : (x f : ℕ) → 1 ≤ x → f < 8 → object x .word f ≡ wordOf pages x f
+  word-is x f l k = ap (λ (b : Obj). b .word f) (sym (shows x)) ∙ view-word pages x l f k
+
+  positive : {x : ℕ} → Reached pages x → 1 ≤ x
+  positive root = omega arith
+  positive (next {o} {x} f p r) = let k = r .some in omega arith
+
+  -- a reference of the claim is an edge of the machine
+  to-edge : (o f x : ℕ) → 1 ≤ o → object o .occ ≡ true → Refers pages o f x → points (object o) x ≡ true
+  to-edge o f x l e r =
+      let w : object o .word f ≡ x = word-is o f l (r .word) ∙ r .target in
+      rw w at (word-edge (object o) f (sym (same-ref pages (object o) o f) ∙ r .reference) e (λ z. r .some (sym w ∙ z)))
+
+  from-edge : {A : Type 0} (o x : ℕ) → 1 ≤ o → points (object o) x ≡ true → ((f : ℕ) → Refers pages o f x → A) → A
+  from-edge o x l h k = edge-word (object o) x h (λ f m e w. k f (record {
+    word = m;
+    reference = same-ref pages (object o) o f ∙ e;
+    target = sym (word-is o f l m) ∙ w;
+    some = points-some (object o) x h;
+  }))
+
+  -- what the claim reaches, the machine reaches, where that is occupied
+  pub to-reach : ((x : ℕ) → Reach object x → object x .occ ≡ true) → {x : ℕ} → Reached pages x → Reach object x
+  to-reach wf root = O.root
+  to-reach wf (next {o} {x} f p r) = let q = to-reach wf p in edge q refl (to-edge o f x (positive p) (wf o q) r)
+
+  from-reach : {x : ℕ} → Reach object x → Reached pages x
+  from-reach O.root = root
+  from-reach (edge {o} {x} p h e) = let q = from-reach p in from-edge o x (positive q) e (λ f r. next f q r)
+
+  -- the machine's pointers lead as the claim says
+  pub leads-out : Claim.Leads object tag → ((x : ℕ) → Reach object x → object x .occ ≡ true) → Leads pages (filtered c ls)
+  leads-out h wf = record {
+    there = λ o f x p r. sym (occ-is x (let k = r .some in omega arith)) ∙ h .occupied o x (to-reach wf p) (to-edge o f x (positive p) (wf o (to-reach wf p)) r);
+    unbrokenly = λ o f x p r. tag-unbroken c ls o f x
+        (let w : object o .word f ≡ x = word-is o f (positive p) (r .word) ∙ r .target in
+        rw w at (h .since o f (to-reach wf p) (sym (same-ref pages (object o) o f) ∙ r .reference) (λ z. r .some (sym w ∙ z))));
+  }
+
+  -- references of lines are objects of the store
+  range-at : (ms : List Line) → SoundLines n ms → (x f : ℕ) → f < 4 → seen c ms x .object .word f ≤ 16 * n
+  unfolding seen
+  range-at [] h x f l = rw (first-word x f) (omega arith)
+  range-at (l ∷ ms) h x f k = let ih = range-at ms (λ m i. h m (later i)) x f k in by-bool (c l)
+      (λ e. rw e (applied-range (l .entry) (sound-record n (l .entry) (h l here)) x (seen c ms x .object) f k ih))
+      (λ e. rw e ih)
+
+  pub whole-in : Leads pages (filtered c ls) → occupied pages 1 ≡ true → Whole (16 * n) (suc (length ls)) object tag
+  whole-in h top = record {
+    leads = λ o f p r z. let q = from-reach p in
+        let w : wordOf pages o f ≡ object o .word f = sym (word-is o f (positive q) (ref-small (object o) f r)) in
+        unbroken-tag c ls o f (object o .word f) (h .unbrokenly o f (object o .word f) q
+        (record { word = ref-small (object o) f r; reference = same-ref pages (object o) o f ∙ r; target = w; some = z }));
+    young = λ x e. let k = born-old c ls x in omega arith;
+    range = λ o x e. edge-word (object o) x e (λ f l r w. rw w at (range-at ls ok o f (ref-four (object o) f r)));
+    wf = λ x p. here-occ (from-reach p);
+  }
+    where
+      here-occ : {x : ℕ} → Reached pages x → object x .occ ≡ true
+      here-occ root = occ-is 1 (omega arith) ∙ top
+      here-occ (next {o} {x} f p r) = occ-is x (let k = r .some in omega arith) ∙ h .there o f x p r

@@ -1,0 +1,111 @@
+-- An accepted set keeps the invariant. n is the number of pages. Assumes nothing.
+use Prim.Native.Nat.{ℕ, suc, _*_, _≤_, _<_}
+use native.Mathlib.Omega.{arith}
+use mathlib.Core.Path.{_≡_, refl, sym, ap, _∙_, subst}
+use mathlib.Core.Bool.{true, cond, _||_}
+use mathlib.Core.List.{List}
+use mathlib.Core.Logic.{inl, inr}
+use lib.ListN.{length}
+use lib.Dec.{eqb, leb}
+use borrow.Author.Tests.{eqb-true, le-leb, lt-ltb, leb-false}
+use Rattle.words.specs.Tests.{by-bool}
+use Rattle.pages.specs.Geometry.{isRefAt}
+use Rattle.pages.specs.Objects.{wordOf}
+use Rattle.records.specs.declared.Record.{Record}
+use Rattle.records.specs.Records.{setOf}
+use Rattle.areas.specs.Answers.{accepted}
+use Rattle.areas.specs.Areas.{Areas, Out}
+use Rattle.calls.specs.Calls.{setWord}
+use Rattle.calls.specs.Objects.{wordSet, callSet}
+use Rattle.acceptance.specs.Entered.{Open, opened}
+use Rattle.acceptance.specs.Objects as Accepted
+use Rattle.acceptance.specs.Objects.{set-outcome, known-facts}
+use Rattle.book.specs.Books.{Book}
+use Rattle.book.specs.Feeding.{fed, adds}
+use Rattle.collector.specs.Objects.{Obj, put, stamp}
+use Rattle.collector.specs.State.{Tables}
+use Rattle.collector.specs.Calls as C
+use Rattle.collector.proofs.Invariant as Collector
+use Rattle.collector.proofs.Write.{keep-set}
+use Rattle.shown.specs.Tables.{tablesOf}
+use Rattle.shown.proofs.Areas.{reference}
+use Rattle.shown.proofs.Frames.{is-object}
+use Rattle.shown.proofs.Facts as Facts
+use Rattle.shown.proofs.Written.{writes, set-beside, set-tables}
+use Rattle.shown.proofs.Shows.{set-shows}
+use Rattle.recovery.proofs.Reversal.{view-word, set-back}
+use Rattle.book_laws.specs.Seen.{Seen, acted, seenFull}
+use Rattle.book_laws.proofs.Acts.{set-acts}
+use Rattle.book_laws.proofs.Soundness.{set-sound}
+use Rattle.book_laws.proofs.Invariant.{adds-inv}
+use Rattle.demand.proofs.State.{machine, OpenInv}
+use Rattle.demand.proofs.Change.{machine-shows, full-shown, Changing, change-runs, collector-after, open-change}
+
+-- what a set makes of an object, as the machine says it
+written-at : (m t o f a v x : ℕ) (see : ℕ → Seen) → acted m (setOf t o f a v) x (see x)
+    ≡ record { object = cond (eqb x o) (put (see o .object) f v) (see x .object); tag = cond (eqb x o) (stamp (see o .tag) f m) (see x .tag) }
+written-at m t o f a v x see = set-acts m x (see x) t o f a v ∙ by-bool (eqb x o) (λ e. rw (e, eqb-true x o e) refl) (λ e. rw e refl)
+
+-- a word that is a reference only below 4
+word-range : (n f v : ℕ) → (f < 4 → v ≤ 16 * n) → (leb 4 f || leb v (16 * n)) ≡ true
+word-range n f v h = by-bool (leb 4 f) (λ e. rw e refl) (λ e. rw e (le-leb v (16 * n) (h (leb-false 4 f e))))
+
+module _ (n : ℕ) (some : 1 ≤ n) (s : Areas) (b : Book) (i : OpenInv n s b) (h : Open s n) (t o f v : ℕ) (g : Accepted.SetFacts s n t o f v) where
+  abbrev w : List ℕ
+  w = writes (s .received) (s .work) n t o f v
+
+  abbrev m : ℕ
+  m = suc (length (b .lines))
+
+  abbrev r : Record
+  r = setOf t o f (wordOf (s .received) o f) v
+
+  -- a reference written is 0 or known, so it is in range
+  new-range : f < 4 → v ≤ 16 * n
+  unfolding isRefAt
+  new-range l = elim (g .may (lt-ltb f 4 l)) [ inl z ↦ omega arith | inr k ↦ known-facts (s .work) n t v k .object .top ]
+
+  changing : Changing n s b t r w
+  changing = record {
+    kind = inr refl;
+    txn = refl;
+    small = g .txn;
+    active = g .active;
+    ok = set-sound n t (lt-ltb t 16 (g .txn)) o (is-object n o (g .object .low) (g .object .top)) f (wordOf (s .received) o f) v (lt-ltb f 8 (g .field))
+        (word-range n f (wordOf (s .received) o f) (reference (s .received) n (h .ranged .received-sound) o f (g .object .low) (g .object .top)))
+        (word-range n f v new-range);
+    room = g .room;
+    own = Facts.own-is s n (machine n s b) (machine-shows n s b) t o (g .txn) (g .object) (g .lock);
+    back = set-back r (seenFull b o .object) refl (ap (λ (x : Obj). x .word f) (full-shown n some s b i o) ∙ view-word (s .received) o (g .object .low) f (g .field));
+    beside = set-beside (s .received) (s .work) n t o f v (h .ranged .received-sound) (g .object .low) (g .object .top) (g .field);
+  }
+
+  machine-kept : Collector.Inv (C.written (machine n s b) t o f v m)
+  machine-kept = keep-set (machine n s b) t o f v m (Facts.set-facts s n (machine n s b) (machine-shows n s b) t o f v m g (omega arith)) (i .collector)
+
+  -- what is known stays known
+  known-after : (u x : ℕ) → b .known u x ≡ true → tablesOf w n .kn u x ≡ true
+  known-after u x q = ap (λ (b : Tables). b .kn u x)
+      (set-tables (s .received) (s .work) n t o f v (h .ranged .received-sound) (g .object .low) (g .object .top) (g .field) (h .sized .work-len) (g .txn)) ∙ i .known u x q
+
+  set-kept : OpenInv n (wordSet s n t o f v) (adds b t r)
+  unfolding wordSet
+  set-kept = let c = changing in let run = change-runs n some s b i h t r w c (b .known) in
+      open-change n some s b i h t r w c (b .known)
+      (collector-after n some s b i h t r w c (b .known) (C.written (machine n s b) t o f v m)
+      (set-shows (s .work) n (h .sized .work-len) (machine n s b) (machine-shows n s b) t o (g .txn) (g .object .low) (g .object .top)
+      (s .received) (h .ranged .received-sound) (full-shown n some s b i o) f v m (g .field))
+      machine-kept _ _ refl refl (λ x. written-at m t o f (wordOf (s .received) o f) v x (seenFull b)))
+      (adds-inv b (i .book) t r run refl refl (λ z. omega arith) (λ z. omega arith) refl)
+      known-after
+
+pub open-set : (n : ℕ) → 1 ≤ n → (s : Areas) (b : Book) → OpenInv n s b → (t o f v : ℕ) → accepted (callSet s t o f v .answer) ≡ true
+    → OpenInv n (callSet s t o f v .after) (fed n b (setWord t o f v) (s .received) (callSet s t o f v .after .received))
+unfolding fed
+open-set n some s b i t o f v a =
+    let k = set-outcome s t o f v .ran a in
+    let h = opened true s (k .n) (k .ready) in
+    let e : k .n ≡ n = sym (h .sized .count) ∙ i .size in
+    let g : callSet s t o f v .after ≡ wordSet s n t o f v = ap (λ (x : Out). x .after) (k .gives) ∙ ap (λ (p : ℕ). wordSet s p t o f v) e in
+    rw g (subst (λ (x : List ℕ). OpenInv n (wordSet s n t o f v) (adds b t (setOf t o f (wordOf x o f) v))) (i .full)
+    (set-kept n some s b i (rw e at h) t o f v (rw e at (Accepted.set-facts s (k .n) t o f v (k .passed)))))

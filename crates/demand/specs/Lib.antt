@@ -1,0 +1,1 @@
+-- No definitions of its own: the statement is `Demand3` of crate book.

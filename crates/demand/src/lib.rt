@@ -1,0 +1,1 @@
+// The theorem of demand 3: a proof alone.
