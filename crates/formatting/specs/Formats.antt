@@ -1,0 +1,71 @@
+-- What formatting makes of each area, by its length, and that these together are the formatted store. Assumes nothing.
+use Prim.Native.Nat.{ℕ, _+_, _*_, _<_, _≤_}
+use mathlib.Core.Path.{_≡_, refl, sym, ap, _∙_}
+use mathlib.Core.Bool.{true, false}
+use mathlib.Core.List.{List, [], _∷_}
+use lib.ListN.{length, getD, set, replicate, length-replicate, getD-replicate}
+use lib.Seq.{ext-getD}
+use native.Mathlib.Nat.{zero-add}
+use native.Mathlib.Omega.{arith}
+use Rattle.words.specs.Spans.{fill, fill-inside, length-fill}
+use Rattle.pages.specs.Geometry.{root}
+use Rattle.pages.specs.Objects.{occupy, formattedPages}
+use Rattle.page_laws.specs.Runs.{fill-turn}
+use Rattle.areas.specs.declared.Refusal.the-variants.{Malformed}
+use Rattle.areas.specs.declared.Answer.the-variants.{Done, Refused}
+use Rattle.areas.specs.Answers.{need-holds, need-fails}
+use Rattle.areas.specs.Areas.{Areas, areas, out, refused, done, checked-pass, checked-refuse}
+use Rattle.areas.specs.Layout.{reopeningAt, workWords}
+use Rattle.areas.specs.Ranges.{fit}
+use Rattle.areas.specs.Entry.{pages, records}
+use Rattle.calls.specs.Formatting.{formatted, callFormat}
+use Rattle.acceptance.specs.Lengths.{sized}
+
+-- as many zeros as there are words
+abbrev pub zeros : List ℕ → List ℕ
+zeros a = replicate (length a) 0
+
+-- a page area: zeros, and the root
+unfoldable pub formattedArea : List ℕ → List ℕ
+formattedArea a = occupy (zeros a) root
+
+-- the working tables: zeros, and the reopening finished
+abbrev pub formattedWork : List ℕ → List ℕ
+formattedWork w = set (zeros w) reopeningAt 2
+
+-- a run of zeros, one word longer
+pub zeros-next : (a : List ℕ) (i : ℕ) (x : List ℕ) → x ≡ fill (λ k. 0) a 0 i → set x i 0 ≡ fill (λ k. 0) a 0 (i + 1)
+zeros-next a i x h = ap (λ (j : ℕ). set x j 0) (sym (zero-add i)) ∙ fill-turn (λ k. 0) a 0 i x h
+
+-- a run of zeros over the whole list
+pub zeros-end : (a : List ℕ) (i : ℕ) (x : List ℕ) → x ≡ fill (λ k. 0) a 0 i → i ≡ length a → x ≡ zeros a
+zeros-end a i x h e = h ∙ ext-getD 0 (fill (λ k. 0) a 0 i) (zeros a) (length-fill (λ k. 0) a 0 i ∙ sym (length-replicate (length a) 0))
+    (λ j l. let m = length-fill (λ k. 0) a 0 i in
+    ap (λ (p : ℕ). getD (fill (λ k. 0) a 0 i) p 0) (sym (zero-add j)) ∙ fill-inside (λ k. 0) a 0 i j (omega arith) (omega arith)
+    ∙ sym (getD-replicate (length a) j 0 0 (omega arith)))
+
+pub area-formatted : (a : List ℕ) (n : ℕ) → length a ≡ 129 * n → formattedArea a ≡ formattedPages n
+unfolding formattedArea formattedPages
+area-formatted a n e = rw e
+
+same-areas : {s s′ c c′ r r′ g g′ k k′ w w′ : List ℕ} → s ≡ s′ → c ≡ c′ → r ≡ r′ → g ≡ g′ → k ≡ k′ → w ≡ w′ → areas s c r g k w ≡ areas s′ c′ r′ g′ k′ w′
+same-areas es ec er eg ek ew = cc
+
+module _ (s c r g k w : List ℕ) where
+  pub format-refuses : fit (areas s c r g k w) ≡ false → out (Refused Malformed) s c r g k w ≡ callFormat (areas s c r g k w)
+  unfolding callFormat
+  format-refuses h = checked-refuse _ _ _ _ (sym (need-fails _ _ _ h))
+
+  -- all six areas by their lengths are the formatted store
+  all-formatted : fit (areas s c r g k w) ≡ true →
+      areas (formattedArea s) (formattedArea c) (formattedArea r) (zeros g) (zeros k) (formattedWork w) ≡ formatted (pages (areas s c r g k w)) (records (areas s c r g k w))
+  unfolding formatted
+  all-formatted h = let z = sized (areas s c r g k w) (pages (areas s c r g k w)) h refl in
+      same-areas (area-formatted s _ (z .stored-len)) (area-formatted c _ (z .copies-len)) (area-formatted r _ (z .received-len))
+      (ap (λ (l : ℕ). replicate l 0) (z .log-len)) (ap (λ (l : ℕ). replicate l 0) (z .counts-len)) (ap (λ (l : ℕ). set (replicate l 0) reopeningAt 2) (z .work-len))
+
+  pub format-done : {s′ c′ r′ g′ k′ w′ : List ℕ} → fit (areas s c r g k w) ≡ true
+      → s′ ≡ formattedArea s → c′ ≡ formattedArea c → r′ ≡ formattedArea r → g′ ≡ zeros g → k′ ≡ zeros k → w′ ≡ formattedWork w
+      → out (Done 0) s′ c′ r′ g′ k′ w′ ≡ callFormat (areas s c r g k w)
+  unfolding callFormat
+  format-done h es ec er eg ek ew = ap (done 0) (same-areas es ec er eg ek ew ∙ all-formatted h) ∙ checked-pass _ _ _ (sym (need-holds _ _ _ h))

@@ -1,0 +1,2 @@
+-- What formatting makes of each area, by its length.
+pub mod Formats

@@ -1,0 +1,66 @@
+// A new store: the root alone in all three page areas, an empty log, and clear working tables.
+ghost use mathlib.Core.Path.{_≡_};
+ghost use Prim.Native.Nat.{_≤_};
+ghost use lib.ListN.{length};
+ghost use Rattle.areas.specs.Areas.{areas, out};
+ghost use Rattle.calls.specs.Formatting.{callFormat};
+ghost use Rattle.formatting.specs.Formats.{zeros, formattedArea, formattedWork};
+use areas::Answer;
+use areas::Refusal;
+
+// Every word becomes 0.
+fn clear(a: &mut [u32])
+    ensures { λ _. ⌜ now (a .exit) ≡ zeros (now (a .entry)) ⌝ }
+{
+    for i in 0..a.len() {
+        a[i] = 0;
+    }
+}
+
+// A page area becomes the root alone.
+fn format_pages(a: &mut [u32])
+    requires { ⌜ 129 ≤ length (now a) ⌝ }
+    ensures { λ _. ⌜ now (a .exit) ≡ formattedArea (now (a .entry)) ⌝ }
+{
+    clear(a);
+    page_ops::change::occupy(a, 1);
+}
+
+// The working tables become clear but for a finished reopening.
+fn format_tables(work: &mut [u32])
+    requires { ⌜ 6 ≤ length (now work) ⌝ }
+    ensures { λ _. ⌜ now (work .exit) ≡ formattedWork (now (work .entry)) ⌝ }
+{
+    clear(work);
+    work[0] = 2;
+}
+
+// Makes a new store of all six areas; looks at their lengths only.
+pub fn format(
+    stored: &mut [u32],
+    copies: &mut [u32],
+    received: &mut [u32],
+    log: &mut [u32],
+    counts: &mut [u32],
+    work: &mut [u32],
+) -> Answer
+    ensures { λ r. ⌜ out r (now (stored .exit)) (now (copies .exit)) (now (received .exit)) (now (log .exit)) (now (counts .exit)) (now (work .exit)) ≡ callFormat (areas (now (stored .entry)) (now (copies .entry)) (now (received .entry)) (now (log .entry)) (now (counts .entry)) (now (work .entry))) ⌝ }
+{
+    if !entry::lengths_fit(
+        stored.len(),
+        copies.len(),
+        received.len(),
+        log.len(),
+        counts.len(),
+        work.len(),
+    ) {
+        return Answer::Refused(Refusal::Malformed);
+    }
+    format_pages(stored);
+    format_pages(copies);
+    format_pages(received);
+    clear(log);
+    clear(counts);
+    format_tables(work);
+    Answer::Done(0)
+}

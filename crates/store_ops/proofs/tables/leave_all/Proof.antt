@@ -1,0 +1,76 @@
+use borrow.Author.Needs.{needs}
+use native.Mathlib.Omega.{arith}
+use Prim.Native.Nat.{_≤_, _-_}
+use mathlib.Core.Path.{_≡_, refl}
+use lib.ListN.{length, length-set}
+use Rattle.words.specs.Spans.{over}
+use Rattle.calls.specs.Transactions.{leaves}
+use Rattle.store_ops.specs.Tables.{over-turn}
+use Rattle.store_ops.proofs.tables.leave_all.Statement.{statement}
+use Rattle.store_ops.proofs.tables.leave_all.Tie as tie
+
+abbrev Inv-loop : tie.InvT-loop
+Inv-loop w₀ a k t j₀ w j = (j ≤ k) × (length w ≡ length w₀) × (w ≡ leaves t w₀ a j)
+
+abbrev μ-loop : tie.MeasureT-loop
+μ-loop w₀ a k t j₀ w j = k - j
+
+loop-holds : tie.Need-loop-holds Inv-loop μ-loop
+unfolding over
+loop-holds c = (omega arith, refl, refl)
+
+add-without-bit : tie.Need-add-without-bit Inv-loop μ-loop
+add-without-bit c = search needs
+
+mul-without-bit : tie.Need-mul-without-bit Inv-loop μ-loop
+mul-without-bit c = search needs
+
+slice-read-without-bit : tie.Need-slice-read-without-bit Inv-loop μ-loop
+slice-read-without-bit c = search needs
+
+without-bit-requires : tie.Need-without-bit-requires Inv-loop μ-loop
+without-bit-requires c κs = search needs
+
+add-w : tie.Need-add-w Inv-loop μ-loop
+add-w c = search needs
+
+mul-w : tie.Need-mul-w Inv-loop μ-loop
+mul-w c = search needs
+
+slice-write-w : tie.Need-slice-write-w Inv-loop μ-loop
+slice-write-w c = search needs
+
+add-j : tie.Need-add-j Inv-loop μ-loop
+add-j c = search needs
+
+loop-less : tie.Need-loop-less Inv-loop μ-loop
+loop-less c = search needs
+
+loop-again : tie.Need-loop-again Inv-loop μ-loop
+loop-again c = (omega arith, simp length-set (c .before .before .before .loop .inv .1), over-turn _ _ _ _ _ _ (c .before .before .before .loop .inv .2) (c .without-bit .ensures))
+
+same-length : tie.Need-same-length Inv-loop μ-loop
+same-length c = search needs
+
+returns : tie.Need-returns Inv-loop μ-loop
+returns c = let e : c .before .loop .j ≡ c .before .before .before .args .k = omega arith in rw e at (c .before .loop .inv .2)
+
+pub leave-all-spec : {M : Type 1} → statement M
+leave-all-spec =
+    tie.close
+    (tie.spec
+    Inv-loop
+    μ-loop
+    loop-holds
+    add-without-bit
+    mul-without-bit
+    slice-read-without-bit
+    without-bit-requires
+    add-w
+    mul-w
+    slice-write-w
+    add-j
+    loop-less
+    loop-again
+    same-length
+    returns)

@@ -1,0 +1,78 @@
+-- The log and its counts, as a call finds them and as a record leaves them. Assumes nothing.
+use Prim.Native.Nat.{ℕ, _+_, _*_, _/_, _<_, _≤_}
+use mathlib.Core.Path.{_≡_, refl, ap}
+use mathlib.Core.Bool.{Bool, true}
+use mathlib.Core.List.{List, []}
+use lib.ListN.{length, getD, set, length-set}
+use lib.Dec.{leb}
+use native.Mathlib.Omega.{arith}
+use Rattle.records.specs.declared.Record.{Record}
+use Rattle.records.specs.Records.{recorded}
+use Rattle.records.specs.Effects.{effect}
+use Rattle.records.specs.Soundness.{recordSound, recordsSound}
+use Rattle.records.specs.Changes.{reserved}
+use Rattle.record_laws.specs.RecordLaws.{records-sound-wider}
+use Rattle.record_laws.specs.EffectLaws.{sound-for}
+use Rattle.areas.specs.Areas.{Areas, areas, receivedCount, appended}
+use Rattle.areas.specs.Entry.{records}
+use Rattle.areas.specs.Layout.{activeAt}
+use Rattle.areas.specs.Tables.{at}
+use Rattle.areas.specs.Ranges.{recordsIn}
+use Rattle.calls.specs.Room.{roomBeyond}
+use Rattle.acceptance.specs.Entered.{Open}
+
+-- the received records of log g with counts k: they fit, and each is sound
+pub record Kept (g k : List ℕ) : Type 0 where
+  pub two : length k ≡ 2
+  pub few : getD k 0 0 ≤ 4096
+  pub inside : 6 * getD k 0 0 ≤ length g
+  pub sound : recordsSound 256 g (getD k 0 0) ≡ true
+
+pub open-kept : (s : Areas) (n : ℕ) → Open s n → Kept (s .log) (s .counts)
+open-kept s n o =
+    let z = o .sized in
+    let r = o .ranged in
+    record {
+      two = z .counts-len;
+      few = omega arith;
+      inside = omega arith;
+      sound = records-sound-wider n 256 (s .log) (receivedCount s) (z .top) (r .records-sound);
+    }
+
+-- record r may be appended to log g with counts k, and takes effect on the pages a
+pub record Fits (a g k : List ℕ) (r : Record) : Type 0 where
+  pub sound : recordSound (length a / 129) r ≡ true
+  pub two : length k ≡ 2
+  pub few : getD k 0 0 < 4096
+  pub inside : 6 * getD k 0 0 + 6 ≤ length g
+
+pub open-fits : (s : Areas) (n : ℕ) (r : Record) → Open s n → recordSound n r ≡ true → receivedCount s + 1 ≤ records s →
+    Fits (s .received) (s .log) (s .counts) r
+open-fits s n r o h l =
+    let z = o .sized in
+    record {
+      sound = sound-for n (s .received) r (z .received-len) h;
+      two = z .counts-len;
+      few = omega arith;
+      inside = omega arith;
+    }
+
+-- room, of the lists that it reads
+abbrev pub roomIn : List ℕ → List ℕ → List ℕ → ℕ → Bool
+roomIn g k w m = roomBeyond (areas [] [] [] g k w) m
+
+pub room-in : (s c r g k w : List ℕ) (m : ℕ) → roomIn g k w m ≡ roomBeyond (areas s c r g k w) m
+unfolding roomBeyond
+room-in s c r g k w m = refl
+
+-- as the code finds it: h is what it found reserved
+pub room-leb : (g k w : List ℕ) (m h : ℕ) → ((v : List ℕ) → h ≡ reserved v g (getD k 0 0) (at w activeAt)) →
+    leb (getD k 0 0 + h + m) (recordsIn (length g)) ≡ roomIn g k w m
+unfolding roomBeyond
+room-leb g k w m h e = ap (λ (x : ℕ). leb (getD k 0 0 + x + m) (recordsIn (length g))) (e w)
+
+-- a record received, list by list
+pub appended-as : (s c r g k w : List ℕ) (x : Record) →
+    areas s c (effect r x) (recorded g (getD k 0 0) x) (set k 0 (getD k 0 0 + 1)) w ≡ appended (areas s c r g k w) x
+unfolding appended
+appended-as s c r g k w x = refl

@@ -1,0 +1,40 @@
+-- Working tables after a change of one word or of a run of words. Assumes nothing.
+use Prim.Native.Nat.{ℕ, _+_, _*_, _≤_}
+use mathlib.Core.Path.{_≡_, sym, ap, _∙_, refl}
+use mathlib.Core.Bool.{Bool, true, false, _&&_}
+use mathlib.Core.List.{List}
+use lib.ListN.{length, getD, set, length-set}
+use lib.Dec.{eqb, leb}
+use native.Mathlib.Omega.{arith}
+use borrow.Author.Tests.{leb-true, eq-eqb, ne-eqb}
+use Rattle.words.specs.Tests.{if, by-bool, and-split, and-t, and-f, if-t, if-f}
+use Rattle.words.specs.Spans.{over, over-next}
+use Rattle.pages.specs.Geometry.{isObject}
+use Rattle.areas.specs.Layout.{colourAt}
+use Rattle.areas.specs.Tables.{at, coloured, isWhite, mayMark, greyed}
+
+-- one more turn of a loop over a run of words
+pub over-turn : (f : ℕ → ℕ) (w : List ℕ) (a k : ℕ) (x : List ℕ) (v : ℕ) → x ≡ over f w a k → v ≡ f (getD x (a + k) 0) → set x (a + k) v ≡ over f w a (k + 1)
+over-turn f w a k x v h e = rw (e, h) (over-next f w a k)
+
+-- what an object of n pages is, in numbers
+pub object-facts : (n o : ℕ) → isObject n o ≡ true → (1 ≤ o) × (o ≤ 16 * n)
+object-facts n o h = let p = and-split (leb 1 o) (leb o (16 * n)) h in (leb-true _ _ (p .0), leb-true _ _ (p .1))
+
+-- an object that turns grey, and one that does not
+module _ (w : List ℕ) (n o : ℕ) where
+  pub greyed-outside : isObject n o ≡ false → w ≡ greyed w n o
+  unfolding greyed
+  greyed-outside h = sym (if-f _ _ _ (and-f _ _ h))
+
+  pub greyed-white : isObject n o ≡ true → at w (colourAt n o) ≡ 0 → coloured w n o 1 ≡ greyed w n o
+  unfolding greyed
+  greyed-white h e = sym (if-t _ _ _ (and-t _ _ h ∙ eq-eqb _ _ e))
+
+  pub greyed-marked : isObject n o ≡ true → (at w (colourAt n o) ≡ 0 → ⊥) → w ≡ greyed w n o
+  unfolding greyed
+  greyed-marked h e = sym (if-f _ _ _ (and-t _ _ h ∙ ne-eqb _ _ e))
+
+  pub length-greyed : length (greyed w n o) ≡ length w
+  unfolding greyed
+  length-greyed = by-bool (mayMark w n o && isWhite w n o) (λ e. rw e (length-set w (colourAt n o) 1)) (λ e. rw e)

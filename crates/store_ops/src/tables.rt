@@ -1,0 +1,113 @@
+ghost use mathlib.Core.Path.{_≡_};
+ghost use Prim.Native.Nat.{_+_, _*_, _<_, _≤_};
+ghost use lib.ListN.{length};
+ghost use Rattle.pages.specs.Geometry.{isObject};
+ghost use Rattle.areas.specs.Tables.{has, gain, lose, canRead, canWrite, knows, greyed};
+ghost use Rattle.calls.specs.Transactions.{leaves, endedEntry, endedEntries};
+use page_ops::bits;
+
+// Whether t is in the mask at word i.
+pub fn has(w: &[u32], i: usize, t: u32) -> bool
+    requires { ⌜ (i < length (now w)) × (t < 32) ⌝ }
+    ensures { λ r. ⌜ r ≡ has (now (w .entry)) i t ⌝ }
+{
+    words::has_bit(w[i], t as usize)
+}
+
+// t enters the mask at word i.
+pub fn gain(w: &mut [u32], i: usize, t: u32)
+    requires { ⌜ (i < length (now w)) × (t < 32) ⌝ }
+    ensures { λ _. ⌜ now (w .exit) ≡ gain (now (w .entry)) i t ⌝ }
+{
+    w[i] = bits::with_bit(w[i], t as usize);
+}
+
+// t leaves the mask at word i.
+pub fn lose(w: &mut [u32], i: usize, t: u32)
+    requires { ⌜ (i < length (now w)) × (t < 32) ⌝ }
+    ensures { λ _. ⌜ now (w .exit) ≡ lose (now (w .entry)) i t ⌝ }
+{
+    w[i] = bits::without_bit(w[i], t as usize);
+}
+
+// t leaves each of the k masks from word a.
+pub fn leave_all(w: &mut [u32], a: usize, k: usize, t: u32)
+    requires { ⌜ (a + k ≤ length (now w)) × (t < 32) ⌝ }
+    ensures { λ _. ⌜ now (w .exit) ≡ leaves t (now (w .entry)) a k ⌝ }
+{
+    for j in 0..k {
+        w[a + j] = bits::without_bit(w[a + j], t as usize);
+    }
+}
+
+// A mask of the PRT or the COT once t has ended: t leaves it, and where a pass runs the flag stands for it.
+fn ended_entry(m: u32, t: u32, runs: bool) -> u32
+    requires { ⌜ t < 32 ⌝ }
+    ensures { λ r. ⌜ r ≡ endedEntry runs t m ⌝ }
+{
+    if !words::has_bit(m, t as usize) {
+        return m;
+    }
+    let left = bits::without_bit(m, t as usize);
+    if runs { bits::with_bit(left, 16) } else { left }
+}
+
+// The same of each of the k masks from word a.
+pub fn end_entries(w: &mut [u32], a: usize, k: usize, t: u32)
+    requires { ⌜ (2 < length (now w)) × (a + k ≤ length (now w)) × (t < 32) ⌝ }
+    ensures { λ _. ⌜ now (w .exit) ≡ endedEntries t (now (w .entry)) a k ⌝ }
+{
+    let runs = w[2] != 0;
+    for j in 0..k {
+        w[a + j] = ended_entry(w[a + j], t, runs);
+    }
+}
+
+// Whether t may read page p of n: under either lock.
+pub fn can_read(w: &[u32], n: usize, t: u32, p: usize) -> bool
+    requires { ⌜ (length (now w) ≡ 6 + 67 * n) × (p < n) × (t < 32) ⌝ }
+    ensures { λ r. ⌜ r ≡ canRead (now (w .entry)) n t p ⌝ }
+{
+    has(w, 6 + p, t) | has(w, 6 + n + p, t)
+}
+
+// Whether t may write page p of n.
+pub fn can_write(w: &[u32], n: usize, t: u32, p: usize) -> bool
+    requires { ⌜ (length (now w) ≡ 6 + 67 * n) × (p < n) × (t < 32) ⌝ }
+    ensures { λ r. ⌜ r ≡ canWrite (now (w .entry)) n t p ⌝ }
+{
+    has(w, 6 + n + p, t)
+}
+
+// Whether o is an object of n pages.
+pub fn is_object(n: usize, o: u32) -> bool
+    requires { ⌜ n ≤ 256 ⌝ }
+    ensures { λ r. ⌜ r ≡ isObject n o ⌝ }
+{
+    (1 <= o) & (o <= 16 * (n as u32))
+}
+
+// Whether t knows o; what is no object of n pages is never known.
+pub fn knows(w: &[u32], n: usize, t: u32, o: u32) -> bool
+    requires { ⌜ (length (now w) ≡ 6 + 67 * n) × (n ≤ 256) × (t < 32) ⌝ }
+    ensures { λ r. ⌜ r ≡ knows (now (w .entry)) n t o ⌝ }
+{
+    if !is_object(n, o) {
+        return false;
+    }
+    has(w, 6 + 3 * n + (o as usize - 1), t)
+}
+
+// A white object of the pass turns grey.
+pub fn turn_grey(w: &mut [u32], n: usize, o: u32)
+    requires { ⌜ (length (now w) ≡ 6 + 67 * n) × (n ≤ 256) ⌝ }
+    ensures { λ _. ⌜ now (w .exit) ≡ greyed (now (w .entry)) n o ⌝ }
+{
+    if !is_object(n, o) {
+        return;
+    }
+    let i = 6 + 51 * n + (o as usize - 1);
+    if w[i] == 0 {
+        w[i] = 1;
+    }
+}
