@@ -4,6 +4,7 @@ use mathlib.Core.Path.{_≡_, refl, ap}
 use mathlib.Core.Bool.{Bool, true}
 use mathlib.Core.List.{List, []}
 use lib.ListN.{length, getD, set, length-set}
+use lib.Seq.{getD-set-same}
 use lib.Dec.{leb}
 use native.Mathlib.Omega.{arith}
 use Rattle.records.specs.declared.Record.{Record}
@@ -13,7 +14,8 @@ use Rattle.records.specs.Soundness.{recordSound, recordsSound}
 use Rattle.records.specs.Changes.{reserved}
 use Rattle.record_laws.specs.RecordLaws.{records-sound-wider}
 use Rattle.record_laws.specs.EffectLaws.{sound-for}
-use Rattle.areas.specs.Areas.{Areas, areas, receivedCount, appended}
+use Rattle.areas.specs.declared.Answer.the-variants.{Done}
+use Rattle.areas.specs.Areas.{Areas, Out, areas, out, done, receivedCount, withWork, appended}
 use Rattle.areas.specs.Entry.{records}
 use Rattle.areas.specs.Layout.{activeAt}
 use Rattle.areas.specs.Tables.{at}
@@ -76,3 +78,14 @@ pub appended-as : (s c r g k w : List ℕ) (x : Record) →
     areas s c (effect r x) (recorded g (getD k 0 0) x) (set k 0 (getD k 0 0 + 1)) w ≡ appended (areas s c r g k w) x
 unfolding appended
 appended-as s c r g k w x = refl
+
+-- the outcome of a call that answers the received count
+abbrev pub counted : Areas → Out
+counted a = done (receivedCount a) a
+
+-- .. and appends one record, e being what `append` tells, and then changes the working tables
+pub appended-out : (s c a g k w : List ℕ) (r : Record) (x : ℕ) (a′ g′ k′ w′ v : List ℕ) → length k ≡ 2 →
+    (x ≡ getD k 0 0 + 1) × (a′ ≡ effect a r) × (g′ ≡ recorded g (getD k 0 0) r) × (k′ ≡ set k 0 (getD k 0 0 + 1)) → w′ ≡ v →
+    out (Done x) s c a′ g′ k′ w′ ≡ counted (withWork (appended (areas s c a g k w) r) v)
+unfolding appended
+appended-out s c a g k w r x a′ g′ k′ w′ v l e h = rw (getD-set-same k 0 (getD k 0 0 + 1) 0 (omega arith), e .0, e .1, e .2, e .3, h)

@@ -1,5 +1,5 @@
 -- Working tables after a change of one word or of a run of words. Assumes nothing.
-use Prim.Native.Nat.{ℕ, _+_, _*_, _≤_}
+use Prim.Native.Nat.{ℕ, zero, suc, _+_, _*_, _≤_}
 use mathlib.Core.Path.{_≡_, sym, ap, _∙_, refl}
 use mathlib.Core.Bool.{Bool, true, false, _&&_}
 use mathlib.Core.List.{List}
@@ -16,6 +16,15 @@ use Rattle.areas.specs.Tables.{at, coloured, isWhite, mayMark, greyed}
 -- one more turn of a loop over a run of words
 pub over-turn : (f : ℕ → ℕ) (w : List ℕ) (a k : ℕ) (x : List ℕ) (v : ℕ) → x ≡ over f w a k → v ≡ f (getD x (a + k) 0) → set x (a + k) v ≡ over f w a (k + 1)
 over-turn f w a k x v h e = rw (e, h) (over-next f w a k)
+
+-- two runs that follow one another are one run
+pub over-join : (f : ℕ → ℕ) (w : List ℕ) (a m k : ℕ) → over f (over f w a m) (a + m) k ≡ over f w a (m + k)
+unfolding over
+over-join f w a m zero = let e : m + 0 ≡ m = omega arith in rw e
+over-join f w a m (suc k) =
+    let e : m + suc k ≡ suc (m + k) = omega arith in
+    let d : a + m + k ≡ a + (m + k) = omega arith in
+    rw (e, over, over-join f w a m k, d)
 
 -- what an object of n pages is, in numbers
 pub object-facts : (n o : ℕ) → isObject n o ≡ true → (1 ≤ o) × (o ≤ 16 * n)

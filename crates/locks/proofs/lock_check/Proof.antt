@@ -1,0 +1,44 @@
+use native.Mathlib.Omega.{arith}
+use mathlib.Core.Path.{sym, _∙_, ap}
+use borrow.Author.Tests.{not-true, not-false}
+use Rattle.locks.specs.Checks.{answerTo, lock-outside, lock-inside, lock-inactive, lock-answer}
+use borrow.Author.Needs.{needs}
+use Rattle.locks.proofs.lock_check.Statement.{statement}
+use Rattle.locks.proofs.lock_check.Tie as tie
+
+returns : tie.Need-returns
+returns c = lock-outside _ _ _ _ _ (not-true _ (c .if1 .taken))
+
+has-requires : tie.Need-has-requires
+has-requires c κs = let h = lock-inside (c .before .before .args .w .now) (c .before .before .args .n) (c .before .before .args .t) (c .before .before .args .p) (c .before .before .args .writing) (not-false _ (c .if1 .left)) in (omega arith, omega arith)
+
+returns-2 : tie.Need-returns-2
+returns-2 c = lock-inactive _ _ _ _ _ (not-false _ (c .before .before .if1 .left)) (sym (c .before .has .ensures) ∙ not-true _ (c .if2 .taken))
+
+way-to-requires : tie.Need-way-to-requires
+way-to-requires c κs = let h = lock-inside (c .before .before .before .before .args .w .now) (c .before .before .before .before .args .n) (c .before .before .before .before .args .t) (c .before .before .before .before .args .p) (c .before .before .before .before .args .writing) (not-false _ (c .before .before .if1 .left)) in omega arith
+
+enum-told : tie.Need-enum-told
+enum-told c = search needs
+
+enum-told-2 : tie.Need-enum-told-2
+enum-told-2 c = search needs
+
+returns-3 : tie.Need-returns-3
+returns-3 c = ap answerTo (sym (c .enum-told .given .1)) ∙ lock-answer _ _ _ _ _ (not-false _ (c .before .before .before .before .before .if1 .left)) (sym (c .before .before .before .before .has .ensures) ∙ not-false _ (c .before .before .before .if2 .left)) (c .before .before .way-to .ensures)
+
+returns-4 : tie.Need-returns-4
+returns-4 c = ap answerTo (sym (c .enum-told2 .given .1)) ∙ lock-answer _ _ _ _ _ (not-false _ (c .before .before .before .before .before .if1 .left)) (sym (c .before .before .before .before .has .ensures) ∙ not-false _ (c .before .before .before .if2 .left)) (c .before .before .way-to .ensures)
+
+pub lock-check-spec : {M : Type 1} → statement M
+lock-check-spec =
+    tie.close
+    (tie.spec
+    returns
+    has-requires
+    returns-2
+    way-to-requires
+    enum-told
+    enum-told-2
+    returns-3
+    returns-4)

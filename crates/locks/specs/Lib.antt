@@ -1,0 +1,2 @@
+-- The tests of both locks as one.
+pub mod Checks

@@ -1,0 +1,2 @@
+-- A pass step from its parts.
+pub mod Stepping
