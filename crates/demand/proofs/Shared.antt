@@ -30,7 +30,7 @@ picked wr t A B x v e = (
 
 module _ (n : ℕ) (some : 1 ≤ n) where
   -- the pages after lines have maps of 16 bits
-  small-after : (c : Line → Bool) (ls : List Line) → SoundLines n ls → Small n (pagesAfter n (filtered c ls))
+  pub small-after : (c : Line → Bool) (ls : List Line) → SoundLines n ls → Small n (pagesAfter n (filtered c ls))
   unfolding pagesAfter filtered
   small-after c [] h = small-formatted n some
   small-after c (l ∷ ls) h = let k : SoundLines n ls = λ m j. h m (later j) in by-bool (c l)

@@ -256,7 +256,7 @@ module _ (n : ℕ) (some : 1 ≤ n) (s : Areas) (b : Book) (i : OpenInv n s b) (
       rw (p, q) at o
 
   -- the book's line
-  lines-fed : sweepLines (s .received) (s′ .received) (b .lines) n ≡ line r 0 ∷ b .lines
+  pub lines-fed : sweepLines (s .received) (s′ .received) (b .lines) n ≡ line r 0 ∷ b .lines
   unfolding sweptPage appended effect
   lines-fed = sweep-released n (s .received) (h .sized .received-len) (b .lines) page map below small frees was-taken
 

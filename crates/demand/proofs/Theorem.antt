@@ -69,7 +69,7 @@ abbrev Inv : ℕ → Point → Type 0
 Inv n q = Inv3 n (q .store) (q .book)
 
 -- every event does: an accepted call, a refused one, a cut
-keep : (n : ℕ) → 1 ≤ n → (q : Point) (e : Event) → Inv n q → Inv n (after n q e)
+pub keep : (n : ℕ) → 1 ≤ n → (q : Point) (e : Event) → Inv n q → Inv n (after n q e)
 unfolding after
 keep n some q (call c) i = by-bool (accepts q c)
     (λ a. rw a (accepted-keeps n some (q .store) (q .book) c i a))

@@ -1,8 +1,8 @@
 -- What formatting makes of each area, by its length, and that these together are the formatted store. Assumes nothing.
-use Prim.Native.Nat.{ℕ, _+_, _*_, _<_, _≤_}
+use Prim.Native.Nat.{ℕ, _+_, _*_}
 use mathlib.Core.Path.{_≡_, refl, sym, ap, _∙_}
 use mathlib.Core.Bool.{true, false}
-use mathlib.Core.List.{List, [], _∷_}
+use mathlib.Core.List.{List}
 use lib.ListN.{length, getD, set, replicate, length-replicate, getD-replicate}
 use lib.Seq.{ext-getD}
 use native.Mathlib.Nat.{zero-add}
@@ -14,8 +14,8 @@ use Rattle.page_laws.specs.Runs.{fill-turn}
 use Rattle.areas.specs.declared.Refusal.the-variants.{Malformed}
 use Rattle.areas.specs.declared.Answer.the-variants.{Done, Refused}
 use Rattle.areas.specs.Answers.{need-holds, need-fails}
-use Rattle.areas.specs.Areas.{Areas, areas, out, refused, done, checked-pass, checked-refuse}
-use Rattle.areas.specs.Layout.{reopeningAt, workWords}
+use Rattle.areas.specs.Areas.{areas, out, done, checked-pass, checked-refuse}
+use Rattle.areas.specs.Layout.{reopeningAt}
 use Rattle.areas.specs.Ranges.{fit}
 use Rattle.areas.specs.Entry.{pages, records}
 use Rattle.calls.specs.Formatting.{formatted, callFormat}

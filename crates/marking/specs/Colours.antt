@@ -1,17 +1,17 @@
 -- The loops over the colours: the first ones, the search for a grey one, and the targets that turn grey. n is the number of pages.
 -- Assumes nothing.
-use Prim.Native.Nat.{ℕ, zero, suc, _+_, _*_, _-_, _<_, _≤_}
-use mathlib.Core.Path.{_≡_, refl, sym, ap, _∙_, subst}
-use mathlib.Core.Bool.{Bool, true, false, not, _&&_, _||_}
+use Prim.Native.Nat.{ℕ, zero, suc, _+_, _*_, _<_, _≤_}
+use mathlib.Core.Path.{_≡_, refl, sym, ap, _∙_}
+use mathlib.Core.Bool.{Bool, true, false, not, _||_}
 use mathlib.Core.List.{List}
-use lib.ListN.{length, getD, set, length-set}
+use lib.ListN.{getD, set}
 use lib.Dec.{eqb}
 use native.Mathlib.Numerals.{add-one}
 use native.Mathlib.Omega.{arith}
 use borrow.Author.Tests.{le-leb, eq-eqb, ne-eqb, lt-ltb}
 use Rattle.words.specs.Tests.{if, if-t, if-f, lowest, lowest-next, lowest-found}
-use Rattle.words.specs.Spans.{fill, fill-outside, length-fill}
-use Rattle.pages.specs.Geometry.{root, pageOf, slotOf, isRefAt, isRef}
+use Rattle.words.specs.Spans.{fill, fill-outside}
+use Rattle.pages.specs.Geometry.{root, isRefAt}
 use Rattle.pages.specs.Objects.{occupied, wordOf}
 use Rattle.page_laws.specs.Runs.{fill-turn}
 use Rattle.areas.specs.Layout.{prunedAt, colourAt}
@@ -49,10 +49,6 @@ module _ (w : List ℕ) (n : ℕ) where
       let colour : v ≡ firstColour w n (k + 1) = e ∙ ap (λ (m : ℕ). colourBy m (eqb k 0)) kept ∙ sym (first-colour w n k l) in
       let place : 6 + 51 * n + k ≡ colourAt n 1 + k = omega arith in
       rw (colour, place) (fill-turn (λ j. firstColour w n (j + 1)) w (colourAt n 1) k x h)
-
-  pub length-first : (k : ℕ) → length (firstColours w n k) ≡ length w
-  unfolding firstColours
-  length-first k = length-fill (λ j. firstColour w n (j + 1)) w (colourAt n 1) k
 
 -- the start of a pass: the flags go, the colours, the pass record
 flags-gone : (w : List ℕ) (n : ℕ) → leaves flag (leaves flag w (6 + 19 * n) (16 * n)) (6 + 35 * n) (16 * n) ≡ unflagged w n

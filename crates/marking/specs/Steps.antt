@@ -1,24 +1,15 @@
 -- A marking step over the copies and the working tables, and the step number. n is the number of pages. Assumes nothing.
-use Prim.Native.Nat.{ℕ, _+_, _*_, _<_, _≤_, min}
-use mathlib.Core.Path.{_≡_, refl, sym, ap, _∙_}
+use Prim.Native.Nat.{ℕ, _*_, _<_, _≤_}
+use mathlib.Core.Path.{_≡_, refl, sym, _∙_}
 use mathlib.Core.Bool.{Bool, true, false}
 use mathlib.Core.List.{List}
-use lib.ListN.{length, getD, set, length-set}
 use lib.Dec.{leb}
-use native.Mathlib.Omega.{arith}
 use borrow.Author.Tests.{le-leb, lt-leb}
 use Rattle.words.specs.Tests.{if, if-t, if-f}
-use Rattle.areas.specs.Areas.{Areas, Out, done, withWork}
-use Rattle.areas.specs.Layout.{passPageAt, stepsAt}
+use Rattle.areas.specs.Areas.{Areas, done, withWork}
+use Rattle.areas.specs.Layout.{passPageAt}
 use Rattle.areas.specs.Tables.{at, passFirst, withPass, stepsNext}
 use Rattle.calls.specs.Pass.{lowestGrey, scanned, marked}
-
-module _ (w : List ℕ) (n : ℕ) where
-  pub steps-more : at w stepsAt < 17 * n → at w stepsAt + 1 ≡ stepsNext w n
-  steps-more h = omega arith
-
-  pub steps-most : 17 * n ≤ at w stepsAt → 17 * n ≡ stepsNext w n
-  steps-most h = omega arith
 
 -- a step's answer, and the working tables after it
 unfoldable pub markValue : List ℕ → ℕ → ℕ

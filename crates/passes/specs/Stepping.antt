@@ -1,10 +1,9 @@
 -- A pass step from its parts: refused, marking, or sweeping. n is the number of pages. Assumes nothing.
 use Prim.Native.Nat.{ℕ, _+_, _*_, _<_, _≤_}
-use mathlib.Core.Path.{_≡_, refl, sym, ap, _∙_}
-use mathlib.Core.Bool.{Bool, true, false, not}
+use mathlib.Core.Path.{_≡_, sym, ap, _∙_}
+use mathlib.Core.Bool.{Bool, not}
 use mathlib.Core.List.{List}
 use lib.ListN.{length, getD}
-use lib.Dec.{eqb}
 use native.Mathlib.Omega.{arith}
 use borrow.Author.Tests.{eq-eqb, ne-eqb}
 use Rattle.words.specs.Tests.{if, if-t, if-f}
@@ -13,9 +12,9 @@ use Rattle.pages.specs.Objects.{mapAt}
 use Rattle.page_laws.specs.SoundFacts.{sound-facts}
 use Rattle.areas.specs.declared.Refusal.{Refusal}
 use Rattle.areas.specs.declared.Refusal.the-variants.{WrongState}
-use Rattle.areas.specs.declared.Answer.the-variants.{Done, Refused}
+use Rattle.areas.specs.declared.Answer.the-variants.{Done}
 use Rattle.areas.specs.declared.Check.the-variants.{Pass, Refuse}
-use Rattle.areas.specs.Answers.{need, need-holds, need-fails}
+use Rattle.areas.specs.Answers.{need-holds, need-fails}
 use Rattle.areas.specs.Areas.{Areas, Out, areas, out, done, refused, checked, checked-pass, checked-refuse}
 use Rattle.areas.specs.Layout.{phaseAt, passPageAt}
 use Rattle.areas.specs.Tables.{at, passRuns, isMarking}
@@ -23,7 +22,7 @@ use Rattle.calls.specs.Pass.{passCheck, marked, freedMap, sweepCheck, swept, st
 use Rattle.acceptance.specs.Entered.{Open}
 use Rattle.acceptance.specs.Pass.{sweep-facts}
 use Rattle.marking.specs.Steps.{markValue, markWork, marked-as}
-use Rattle.sweeping.specs.Sweeps.{freedIn, freed-in, freed-below, sweepNeeds, sweep-needs, sweptAreas}
+use Rattle.sweeping.specs.Sweeps.{freedIn, freed-in, sweepNeeds, sweep-needs, sweptAreas}
 
 -- the start's own test
 pub start-runs : (s : Areas) → (at (s .work) phaseAt ≡ 0 → ⊥) → passCheck s ≡ Refuse WrongState

@@ -1,16 +1,16 @@
 -- A sweeping step over the lists that it reads and writes. n is the number of pages, p the page, m the map of freed slots.
 -- Assumes nothing.
-use Prim.Native.Nat.{ℕ, _+_, _*_, _^_, _<_, _≤_}
+use Prim.Native.Nat.{ℕ, _+_, _*_, _<_, _≤_}
 use mathlib.Core.Path.{_≡_, refl, sym, ap, _∙_}
 use mathlib.Core.Bool.{Bool, true, false, _&&_, _||_}
-use mathlib.Core.List.{List, []}
-use lib.ListN.{length, getD, set}
-use lib.Dec.{eqb, ltb}
+use mathlib.Core.List.{List}
+use lib.ListN.{getD, set}
+use lib.Dec.{eqb}
 use lib.Bits.{bitAnd}
 use native.Mathlib.Omega.{arith}
 use borrow.Author.Tests.{lt-ltb, le-ltb, eq-eqb, ne-eqb}
 use Rattle.words.specs.Tests.{if, if-t, if-f, by-bool, or-l}
-use Rattle.words.specs.Bits.{bit, mapOf, map-lt}
+use Rattle.words.specs.Bits.{mapOf, map-lt}
 use Rattle.pages.specs.Geometry.{objectAt}
 use Rattle.pages.specs.Objects.{mapAt, taken, released}
 use Rattle.records.specs.Records.{recorded, sweepOf}
@@ -19,9 +19,9 @@ use Rattle.areas.specs.declared.Refusal.the-variants.{LogFull}
 use Rattle.areas.specs.declared.Check.{Check}
 use Rattle.areas.specs.declared.Check.the-variants.{Pass, Refuse}
 use Rattle.areas.specs.Answers.{need, need-holds, need-fails}
-use Rattle.areas.specs.Areas.{Areas, areas, withWork, withCopies, appended}
+use Rattle.areas.specs.Areas.{Areas, areas, withWork, appended}
 use Rattle.areas.specs.Layout.{createdAt, colourAt}
-use Rattle.areas.specs.Tables.{passEnd, stepsNext, withPass}
+use Rattle.areas.specs.Tables.{stepsNext, withPass}
 use Rattle.calls.specs.Pass.{locked, unmarked, sweepMap, freedMap, advanced, sweepCheck, sweptPage}
 use Rattle.store_ops.specs.Logs.{roomIn, room-in}
 use Rattle.sweeping.specs.Maps.{map-and, map-of-bits}

@@ -7,8 +7,6 @@ use Rattle.words.specs.Spans.{fill}
 use Rattle.formatting.specs.Formats.{zeros-next, zeros-end}
 use Rattle.formatting.proofs.clear.Statement.{statement}
 use Rattle.formatting.proofs.clear.Tie as tie
-use Rattle.formatting.proofs.clear.Reads as reads
-use Rattle.formatting.proofs.clear.Lts as lts
 
 abbrev Inv-loop : tie.InvT-loop
 Inv-loop a₀ i₀ i-end a i = (i ≤ length a₀) × (i-end ≡ length a₀) × (length a ≡ length a₀) × (a ≡ fill (λ k. 0) a₀ 0 i)
@@ -16,36 +14,28 @@ Inv-loop a₀ i₀ i-end a i = (i ≤ length a₀) × (i-end ≡ length a₀) ×
 abbrev μ-loop : tie.MeasureT-loop
 μ-loop a₀ i₀ i-end a i = length a₀ - i
 
--- src/lib.rt:15:5
 loop-holds : tie.Need-loop-holds Inv-loop μ-loop
 unfolding fill
 loop-holds c = (omega arith, refl, refl, refl)
 
--- src/lib.rt:16:9
 mul-a : tie.Need-mul-a Inv-loop μ-loop
 mul-a c = search needs
 
--- src/lib.rt:16:9
 slice-write-a : tie.Need-slice-write-a Inv-loop μ-loop
 slice-write-a c = search needs
 
--- src/lib.rt:15:9
 add-i : tie.Need-add-i Inv-loop μ-loop
 add-i c = search needs
 
--- src/lib.rt:15:5
 loop-less : tie.Need-loop-less Inv-loop μ-loop
 loop-less c = search needs
 
--- src/lib.rt:15:5
 loop-again : tie.Need-loop-again Inv-loop μ-loop
 loop-again c = (search needs, search needs, search needs, zeros-next _ _ _ (c .before .loop .inv .3))
 
--- src/lib.rt:12:1
 same-length : tie.Need-same-length Inv-loop μ-loop
 same-length c = search needs
 
--- src/lib.rt:12:1
 returns : tie.Need-returns Inv-loop μ-loop
 returns c = zeros-end _ _ _ (c .before .loop .inv .3) (omega arith)
 

@@ -6,70 +6,49 @@ use Rattle.formatting.specs.Formats.{format-refuses, format-done}
 use borrow.Author.Needs.{needs}
 use Rattle.formatting.proofs.format.Statement.{statement}
 use Rattle.formatting.proofs.format.Tie as tie
-use Rattle.formatting.proofs.format.Reads as reads
-use Rattle.formatting.proofs.format.Lts as lts
-use Rattle.entry.proofs.lengths_fit.Reads as lengths-fit-reads
-use Rattle.formatting.proofs.clear.Reads as clear-reads
-use Rattle.formatting.proofs.format_pages.Reads as format-pages-reads
-use Rattle.formatting.proofs.format_tables.Reads as format-tables-reads
 
--- src/lib.rt:49:9
 lengths-fit-requires : tie.Need-lengths-fit-requires
 lengths-fit-requires c κs = search needs
 
--- src/lib.rt:57:9
 returns : tie.Need-returns
 returns c = format-refuses _ _ _ _ _ _ (sym (c .before .lengths-fit .ensures) ∙ not-true _ (c .if1 .taken))
 
--- src/lib.rt:59:5
 format-pages-requires : tie.Need-format-pages-requires
 format-pages-requires c κs = let h = lengths-facts _ _ _ _ _ _ (sym (c .before .before .lengths-fit .ensures) ∙ not-false _ (c .before .if1 .left)) in omega arith
 
--- src/lib.rt:60:5
 format-pages-requires-2 : tie.Need-format-pages-requires-2
 format-pages-requires-2 c κs = let h = lengths-facts _ _ _ _ _ _ (sym (c .before .before .before .before .before .before .lengths-fit .ensures) ∙ not-false _ (c .before .before .before .before .before .if1 .left)) in omega arith
 
--- src/lib.rt:61:5
 format-pages-requires-3 : tie.Need-format-pages-requires-3
 format-pages-requires-3 c κs = let h = lengths-facts _ _ _ _ _ _ (sym (c .before .before .before .before .before .before .before .before .before .before .lengths-fit .ensures) ∙ not-false _ (c .before .before .before .before .before .before .before .before .before .if1 .left)) in omega arith
 
--- src/lib.rt:62:5
 clear-requires : tie.Need-clear-requires
 clear-requires c κs = search needs
 
--- src/lib.rt:63:5
 clear-requires-2 : tie.Need-clear-requires-2
 clear-requires-2 c κs = search needs
 
--- src/lib.rt:64:5
 format-tables-requires : tie.Need-format-tables-requires
 format-tables-requires c κs = let h = lengths-facts _ _ _ _ _ _ (sym (c .before .before .before .before .before .before .before .before .before .before .before .before .before .before .before .before .before .before .before .before .before .before .lengths-fit .ensures) ∙ not-false _ (c .before .before .before .before .before .before .before .before .before .before .before .before .before .before .before .before .before .before .before .before .before .if1 .left)) in omega arith
 
--- src/lib.rt:39:1
 same-length : tie.Need-same-length
 same-length c = search needs
 
--- src/lib.rt:39:1
 same-length-2 : tie.Need-same-length-2
 same-length-2 c = search needs
 
--- src/lib.rt:39:1
 same-length-3 : tie.Need-same-length-3
 same-length-3 c = search needs
 
--- src/lib.rt:39:1
 same-length-4 : tie.Need-same-length-4
 same-length-4 c = search needs
 
--- src/lib.rt:39:1
 same-length-5 : tie.Need-same-length-5
 same-length-5 c = search needs
 
--- src/lib.rt:39:1
 same-length-6 : tie.Need-same-length-6
 same-length-6 c = search needs
 
--- src/lib.rt:39:1
 returns-2 : tie.Need-returns-2
 returns-2 c = format-done _ _ _ _ _ _ (sym (c .before .before .before .before .before .before .before .before .before .before .before .before .before .before .before .before .before .before .before .before .before .before .before .before .before .lengths-fit .ensures) ∙ not-false _ (c .before .before .before .before .before .before .before .before .before .before .before .before .before .before .before .before .before .before .before .before .before .before .before .before .if1 .left)) (c .before .before .before .before .before .before .before .before .before .before .before .before .before .before .before .before .before .before .before .before .before .before .format-pages .ensures) (c .before .before .before .before .before .before .before .before .before .before .before .before .before .before .before .before .before .before .format-pages2 .ensures) (c .before .before .before .before .before .before .before .before .before .before .before .before .before .before .format-pages3 .ensures) (c .before .before .before .before .before .before .before .before .before .before .clear .ensures) (c .before .before .before .before .before .before .clear2 .ensures) (c .before .before .format-tables .ensures)
 

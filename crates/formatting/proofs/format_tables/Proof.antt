@@ -1,4 +1,3 @@
-use native.Mathlib.Omega.{arith}
 use mathlib.Core.Path.{ap}
 use mathlib.Core.List.{List}
 use Prim.Native.Nat.{ℕ}
@@ -6,23 +5,16 @@ use lib.ListN.{set}
 use borrow.Author.Needs.{needs}
 use Rattle.formatting.proofs.format_tables.Statement.{statement}
 use Rattle.formatting.proofs.format_tables.Tie as tie
-use Rattle.formatting.proofs.format_tables.Reads as reads
-use Rattle.formatting.proofs.format_tables.Lts as lts
-use Rattle.formatting.proofs.clear.Reads as clear-reads
 
--- src/lib.rt:34:5
 clear-requires : tie.Need-clear-requires
 clear-requires c κs = search needs
 
--- src/lib.rt:35:5
 slice-write-work : tie.Need-slice-write-work
 slice-write-work c = search needs
 
--- src/lib.rt:30:1
 same-length : tie.Need-same-length
 same-length c = search needs
 
--- src/lib.rt:30:1
 returns : tie.Need-returns
 returns c = ap (λ (l : List ℕ). set l 0 2) (c .before .before .clear .ensures)
 

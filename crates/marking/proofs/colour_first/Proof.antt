@@ -6,9 +6,6 @@ use lib.ListN.{length}
 use Rattle.marking.specs.Colours.{firstColours, first-none, first-next}
 use Rattle.marking.proofs.colour_first.Statement.{statement}
 use Rattle.marking.proofs.colour_first.Tie as tie
-use Rattle.marking.proofs.colour_first.Reads as reads
-use Rattle.marking.proofs.colour_first.Lts as lts
-use Rattle.marking.proofs.first_colour.Reads as first-colour-reads
 
 abbrev Inv-loop : tie.InvT-loop
 Inv-loop work₀ n k₀ k-end work k = (k ≤ 16 * n) × (k-end ≡ 16 * n) × (length work ≡ length work₀) × (work ≡ firstColours work₀ n k)
@@ -16,75 +13,57 @@ Inv-loop work₀ n k₀ k-end work k = (k ≤ 16 * n) × (k-end ≡ 16 * n) × (
 abbrev μ-loop : tie.MeasureT-loop
 μ-loop work₀ n k₀ k-end work k = 16 * n - k
 
--- src/lib.rt:43:17
 mul-k-end : tie.Need-mul-k-end Inv-loop μ-loop
 mul-k-end c = search needs
 
--- src/lib.rt:43:5
 loop-holds : tie.Need-loop-holds Inv-loop μ-loop
 loop-holds c = (omega arith, refl, refl, first-none _ _)
 
--- src/lib.rt:44:54
 mul-first-colour : tie.Need-mul-first-colour Inv-loop μ-loop
 mul-first-colour c = search needs
 
--- src/lib.rt:44:50
 add-first-colour : tie.Need-add-first-colour Inv-loop μ-loop
 add-first-colour c = search needs
 
--- src/lib.rt:44:50
 add-first-colour-2 : tie.Need-add-first-colour-2 Inv-loop μ-loop
 add-first-colour-2 c = search needs
 
--- src/lib.rt:44:45
 mul-first-colour-2 : tie.Need-mul-first-colour-2 Inv-loop μ-loop
 mul-first-colour-2 c = search needs
 
--- src/lib.rt:44:45
 slice-read-first-colour : tie.Need-slice-read-first-colour Inv-loop μ-loop
 slice-read-first-colour c = search needs
 
--- src/lib.rt:44:32
 first-colour-requires : tie.Need-first-colour-requires Inv-loop μ-loop
 first-colour-requires c κs = search needs
 
--- src/lib.rt:44:18
 mul-work : tie.Need-mul-work Inv-loop μ-loop
 mul-work c = search needs
 
--- src/lib.rt:44:14
 add-work : tie.Need-add-work Inv-loop μ-loop
 add-work c = search needs
 
--- src/lib.rt:44:14
 add-work-2 : tie.Need-add-work-2 Inv-loop μ-loop
 add-work-2 c = search needs
 
--- src/lib.rt:44:9
 mul-work-2 : tie.Need-mul-work-2 Inv-loop μ-loop
 mul-work-2 c = search needs
 
--- src/lib.rt:44:9
 slice-write-work : tie.Need-slice-write-work Inv-loop μ-loop
 slice-write-work c = search needs
 
--- src/lib.rt:43:9
 add-k : tie.Need-add-k Inv-loop μ-loop
 add-k c = search needs
 
--- src/lib.rt:43:5
 loop-less : tie.Need-loop-less Inv-loop μ-loop
 loop-less c = search needs
 
--- src/lib.rt:43:5
 loop-again : tie.Need-loop-again Inv-loop μ-loop
 loop-again c = (search needs, search needs, search needs, first-next _ _ _ _ _ (c .before .before .before .loop .inv .3) (omega arith) (c .first-colour .ensures))
 
--- src/lib.rt:39:1
 same-length : tie.Need-same-length Inv-loop μ-loop
 same-length c = search needs
 
--- src/lib.rt:39:1
 returns : tie.Need-returns Inv-loop μ-loop
 returns c = c .before .loop .inv .3 ∙ ap (firstColours _ _) (omega arith)
 

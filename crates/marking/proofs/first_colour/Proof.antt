@@ -1,17 +1,11 @@
-use borrow.Author.Needs.{needs}
-use native.Mathlib.Omega.{arith}
 use mathlib.Core.Path.{sym}
 use Rattle.words.specs.Tests.{if-t, if-f}
 use Rattle.marking.proofs.first_colour.Statement.{statement}
 use Rattle.marking.proofs.first_colour.Tie as tie
-use Rattle.marking.proofs.first_colour.Reads as reads
-use Rattle.marking.proofs.first_colour.Lts as lts
 
--- src/lib.rt:32:1
 returns : tie.Need-returns
 returns c = sym (if-t _ _ _ (c .if1 .taken))
 
--- src/lib.rt:32:1
 returns-2 : tie.Need-returns-2
 returns-2 c = sym (if-f _ _ _ (c .if1 .left))
 

@@ -2,8 +2,6 @@ use borrow.Author.Needs.{needs}
 use native.Mathlib.Omega.{arith}
 use Prim.Native.Nat.{_-_, _≤_}
 use mathlib.Core.Path.{_≡_, refl, sym, ap, _∙_}
-use mathlib.Core.List.{List}
-use Prim.Native.Nat.{ℕ}
 use lib.ListN.{length}
 use borrow.Author.Tests.{not-true, not-false}
 use Rattle.areas.specs.Tables.{greyed}
@@ -11,11 +9,6 @@ use Rattle.calls.specs.Pass.{targetsGreyed}
 use Rattle.marking.specs.Colours.{targets-free, targets-none, targets-next, targets-end}
 use Rattle.marking.proofs.grey_targets.Statement.{statement}
 use Rattle.marking.proofs.grey_targets.Tie as tie
-use Rattle.marking.proofs.grey_targets.Reads as reads
-use Rattle.marking.proofs.grey_targets.Lts as lts
-use Rattle.page_ops.proofs.change.occupied.Reads as occupied-reads
-use Rattle.page_ops.proofs.change.word_of.Reads as word-of-reads
-use Rattle.store_ops.proofs.turn_grey.Reads as turn-grey-reads
 
 abbrev Inv-loop : tie.InvT-loop
 Inv-loop copies work₀ n o f₀ work f = (f ≤ 4) × (length work ≡ length work₀) × (work ≡ targetsGreyed copies work₀ n o f)
@@ -23,43 +16,33 @@ Inv-loop copies work₀ n o f₀ work f = (f ≤ 4) × (length work ≡ length w
 abbrev μ-loop : tie.MeasureT-loop
 μ-loop copies work₀ n o f₀ work f = 4 - f
 
--- src/lib.rt:77:9
 occupied-requires : tie.Need-occupied-requires Inv-loop μ-loop
 occupied-requires c κs = search needs
 
--- src/lib.rt:78:9
 returns : tie.Need-returns Inv-loop μ-loop
 returns c = targets-free _ _ _ _ (sym (c .before .occupied .ensures) ∙ not-true _ (c .if1 .taken))
 
--- src/lib.rt:80:5
 loop-holds : tie.Need-loop-holds Inv-loop μ-loop
 loop-holds c = (omega arith, refl, targets-none _ _ _ _)
 
--- src/lib.rt:81:39
 word-of-requires : tie.Need-word-of-requires Inv-loop μ-loop
 word-of-requires c κs = search needs
 
--- src/lib.rt:81:9
 turn-grey-requires : tie.Need-turn-grey-requires Inv-loop μ-loop
 turn-grey-requires c κs = search needs
 
--- src/lib.rt:80:9
 add-f : tie.Need-add-f Inv-loop μ-loop
 add-f c = search needs
 
--- src/lib.rt:80:5
 loop-less : tie.Need-loop-less Inv-loop μ-loop
 loop-less c = search needs
 
--- src/lib.rt:80:5
 loop-again : tie.Need-loop-again Inv-loop μ-loop
 loop-again c = (search needs, search needs, targets-next _ _ _ _ _ _ _ (c .before .before .before .before .before .before .loop .inv .2) (omega arith) (c .before .before .turn-grey .ensures ∙ ap (greyed _ _) (c .before .before .before .word-of .ensures)))
 
--- src/lib.rt:73:1
 same-length : tie.Need-same-length Inv-loop μ-loop
 same-length c = search needs
 
--- src/lib.rt:73:1
 returns-2 : tie.Need-returns-2 Inv-loop μ-loop
 returns-2 c = targets-end _ _ _ _ _ _ (c .before .loop .inv .2) (omega arith) (sym (c .before .before .before .occupied .ensures) ∙ not-false _ (c .before .before .if1 .left))
 

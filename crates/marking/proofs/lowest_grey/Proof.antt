@@ -5,8 +5,6 @@ use mathlib.Core.Path.{_≡_, refl}
 use Rattle.marking.specs.Colours.{noneGrey, grey-none, grey-next, grey-found, grey-end}
 use Rattle.marking.proofs.lowest_grey.Statement.{statement}
 use Rattle.marking.proofs.lowest_grey.Tie as tie
-use Rattle.marking.proofs.lowest_grey.Reads as reads
-use Rattle.marking.proofs.lowest_grey.Lts as lts
 
 abbrev Inv-loop : tie.InvT-loop
 Inv-loop work n k₀ k-end k = (k ≤ 16 * n) × (k-end ≡ 16 * n) × noneGrey work n k
@@ -14,71 +12,54 @@ Inv-loop work n k₀ k-end k = (k ≤ 16 * n) × (k-end ≡ 16 * n) × noneGrey 
 abbrev μ-loop : tie.MeasureT-loop
 μ-loop work n k₀ k-end k = 16 * n - k
 
--- src/lib.rt:64:17
 mul-k-end : tie.Need-mul-k-end Inv-loop μ-loop
 mul-k-end c = search needs
 
--- src/lib.rt:64:5
 loop-holds : tie.Need-loop-holds Inv-loop μ-loop
 loop-holds c = (omega arith, refl, grey-none _ _)
 
--- src/lib.rt:65:21
 mul-if1 : tie.Need-mul-if1 Inv-loop μ-loop
 mul-if1 c = search needs
 
--- src/lib.rt:65:17
 add-if1 : tie.Need-add-if1 Inv-loop μ-loop
 add-if1 c = search needs
 
--- src/lib.rt:65:17
 add-if1-2 : tie.Need-add-if1-2 Inv-loop μ-loop
 add-if1-2 c = search needs
 
--- src/lib.rt:65:12
 mul-if1-2 : tie.Need-mul-if1-2 Inv-loop μ-loop
 mul-if1-2 c = search needs
 
--- src/lib.rt:65:12
 shared-slice-read-if1 : tie.Need-shared-slice-read-if1 Inv-loop μ-loop
 shared-slice-read-if1 c = search needs
 
--- src/lib.rt:66:20
 cast-result : tie.Need-cast-result Inv-loop μ-loop
 cast-result c = search needs
 
--- src/lib.rt:66:20
 add-result : tie.Need-add-result Inv-loop μ-loop
 add-result c = search needs
 
--- src/lib.rt:66:13
 returns : tie.Need-returns Inv-loop μ-loop
 returns c = grey-found _ _ _ (c .before .before .before .loop .inv .2) (omega arith) (c .if1 .taken)
 
--- src/lib.rt:64:9
 add-k : tie.Need-add-k Inv-loop μ-loop
 add-k c = search needs
 
--- src/lib.rt:64:5
 loop-less : tie.Need-loop-less Inv-loop μ-loop
 loop-less c = search needs
 
--- src/lib.rt:64:5
 loop-again : tie.Need-loop-again Inv-loop μ-loop
 loop-again c = (search needs, search needs, grey-next _ _ _ (c .before .before .before .loop .inv .2) (c .if1 .left))
 
--- src/lib.rt:69:11
 cast-result-2 : tie.Need-cast-result-2 Inv-loop μ-loop
 cast-result-2 c = search needs
 
--- src/lib.rt:69:5
 mul-result : tie.Need-mul-result Inv-loop μ-loop
 mul-result c = search needs
 
--- src/lib.rt:69:5
 add-result-2 : tie.Need-add-result-2 Inv-loop μ-loop
 add-result-2 c = search needs
 
--- src/lib.rt:60:1
 returns-2 : tie.Need-returns-2 Inv-loop μ-loop
 returns-2 c = grey-end _ _ _ (c .before .loop .inv .2) (omega arith)
 

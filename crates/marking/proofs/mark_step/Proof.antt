@@ -5,58 +5,40 @@ use Rattle.marking.specs.Steps.{value-scan, value-turn, work-scan, work-
 use borrow.Author.Needs.{needs}
 use Rattle.marking.proofs.mark_step.Statement.{statement}
 use Rattle.marking.proofs.mark_step.Tie as tie
-use Rattle.marking.proofs.mark_step.Reads as reads
-use Rattle.marking.proofs.mark_step.Lts as lts
-use Rattle.marking.proofs.lowest_grey.Reads as lowest-grey-reads
-use Rattle.marking.proofs.put_pass.Reads as put-pass-reads
-use Rattle.marking.proofs.scan_object.Reads as scan-object-reads
-use Rattle.marking.proofs.steps_next.Reads as steps-next-reads
 
--- src/lib.rt:100:9
 steps-next-requires : tie.Need-steps-next-requires
 steps-next-requires c κs = search needs
 
--- src/lib.rt:101:9
 lowest-grey-requires : tie.Need-lowest-grey-requires
 lowest-grey-requires c κs = search needs
 
--- src/lib.rt:102:14
 cast-if1 : tie.Need-cast-if1
 cast-if1 c = search needs
 
--- src/lib.rt:102:8
 mul-if1 : tie.Need-mul-if1
 mul-if1 c = search needs
 
--- src/lib.rt:103:9
 put-pass-requires : tie.Need-put-pass-requires
 put-pass-requires c κs = search needs
 
--- src/lib.rt:104:9
 same-length : tie.Need-same-length
 same-length c = search needs
 
--- src/lib.rt:104:9
 returns : tie.Need-returns
 returns c = (value-turn _ _ _ (c .before .before .before .before .before .lowest-grey .ensures) (c .before .before .before .before .if1 .taken), c .before .before .put-pass .ensures ∙ work-turn _ _ _ (c .before .before .before .before .before .lowest-grey .ensures) _ _ (c .before .before .before .before .before .before .before .steps-next .ensures) (c .before .before .before .before .if1 .taken))
 
--- src/lib.rt:106:16
 slice-read-page : tie.Need-slice-read-page
 slice-read-page c = search needs
 
--- src/lib.rt:107:5
 scan-object-requires : tie.Need-scan-object-requires
 scan-object-requires c κs = let l = grey-from _ _ _ (c .before .before .before .lowest-grey .ensures) in (omega arith, omega arith, omega arith, l, omega arith)
 
--- src/lib.rt:108:5
 put-pass-requires-2 : tie.Need-put-pass-requires-2
 put-pass-requires-2 c κs = search needs
 
--- src/lib.rt:95:1
 same-length-2 : tie.Need-same-length-2
 same-length-2 c = search needs
 
--- src/lib.rt:95:1
 returns-2 : tie.Need-returns-2
 returns-2 c = (value-scan _ _ _ (c .before .before .before .before .before .before .before .before .before .before .lowest-grey .ensures) (c .before .before .before .before .before .before .before .before .before .if1 .left), c .before .before .put-pass2 .ensures ∙ work-scan _ _ _ (c .before .before .before .before .before .before .before .before .before .before .lowest-grey .ensures) _ _ (c .before .before .before .before .before .before .before .before .before .before .before .before .steps-next .ensures) _ (c .before .before .before .before .before .before .before .before .before .if1 .left) (c .before .before .before .before .before .before .scan-object .ensures))
 

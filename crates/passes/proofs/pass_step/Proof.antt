@@ -1,6 +1,6 @@
 use native.Mathlib.Omega.{arith}
 use mathlib.Core.Bool.{true}
-use mathlib.Core.Path.{sym, ap, _∙_}
+use mathlib.Core.Path.{sym, _∙_}
 use Rattle.areas.specs.Entry.{entering-not, entering-go}
 use Rattle.acceptance.specs.Entered.{opened}
 use Rattle.store_ops.specs.Logs.{open-kept}
@@ -10,183 +10,134 @@ use Rattle.passes.specs.Stepping.{step-idle, step-marks, step-full, step
 use borrow.Author.Needs.{needs}
 use Rattle.passes.proofs.pass_step.Statement.{statement}
 use Rattle.passes.proofs.pass_step.Tie as tie
-use Rattle.passes.proofs.pass_step.Reads as reads
-use Rattle.passes.proofs.pass_step.Lts as lts
-use Rattle.entry.proofs.entry_check.Reads as entry-check-reads
-use Rattle.marking.proofs.mark_step.Reads as mark-step-reads
-use Rattle.sweeping.proofs.freed_map.Reads as freed-map-reads
-use Rattle.sweeping.proofs.sweep_check.Reads as sweep-check-reads
-use Rattle.sweeping.proofs.sweep_step.Reads as sweep-step-reads
 
--- src/lib.rt:45:9
 entry-check-requires : tie.Need-entry-check-requires
 entry-check-requires c κs = search needs
 
--- src/lib.rt:47:20
 enum-known-e : tie.Need-enum-known-e
 enum-known-e c = search needs
 
--- src/lib.rt:48:19
 enum-known-e-2 : tie.Need-enum-known-e-2
 enum-known-e-2 c = search needs
 
--- src/lib.rt:49:25
 slice-read-phase : tie.Need-slice-read-phase
 slice-read-phase c = let h = opened true _ _ (sym (c .before .before .before .before .entry-check .ensures) ∙ c .before .before .e2 .given .1) in omega arith
 
--- src/lib.rt:51:17
 same-length : tie.Need-same-length
 same-length c = search needs
 
--- src/lib.rt:51:17
 same-length-2 : tie.Need-same-length-2
 same-length-2 c = search needs
 
--- src/lib.rt:51:17
 same-length-3 : tie.Need-same-length-3
 same-length-3 c = search needs
 
--- src/lib.rt:51:17
 same-length-4 : tie.Need-same-length-4
 same-length-4 c = search needs
 
--- src/lib.rt:51:17
 same-length-5 : tie.Need-same-length-5
 same-length-5 c = search needs
 
--- src/lib.rt:51:17
 returns : tie.Need-returns
 unfolding callStep
 returns c = step-idle _ _ (c .if1 .taken) ∙ entering-go _ _ _ _ (sym (c .before .before .before .before .before .entry-check .ensures) ∙ c .before .before .before .e2 .given .1)
 
--- src/lib.rt:54:37
 mark-step-requires : tie.Need-mark-step-requires
 mark-step-requires c κs = let h = opened true _ _ (sym (c .before .before .before .before .before .before .before .before .entry-check .ensures) ∙ c .before .before .before .before .before .before .e2 .given .1) in omega arith
 
--- src/lib.rt:54:17
 same-length-6 : tie.Need-same-length-6
 same-length-6 c = search needs
 
--- src/lib.rt:54:17
 same-length-7 : tie.Need-same-length-7
 same-length-7 c = search needs
 
--- src/lib.rt:54:17
 same-length-8 : tie.Need-same-length-8
 same-length-8 c = search needs
 
--- src/lib.rt:54:17
 same-length-9 : tie.Need-same-length-9
 same-length-9 c = search needs
 
--- src/lib.rt:54:17
 same-length-10 : tie.Need-same-length-10
 same-length-10 c = search needs
 
--- src/lib.rt:54:17
 returns-2 : tie.Need-returns-2
 unfolding callStep
 returns-2 c = let q = c .before .before .mark-step .ensures in step-marks _ _ _ _ _ _ _ (c .before .before .before .before .before .before .if1 .left) _ _ (c .before .before .before .before .before .if2 .taken) (q .0) (q .1) ∙ entering-go _ _ _ _ (sym (c .before .before .before .before .before .before .before .before .before .before .before .entry-check .ensures) ∙ c .before .before .before .before .before .before .before .before .before .e2 .given .1)
 
--- src/lib.rt:56:21
 slice-read-p : tie.Need-slice-read-p
 slice-read-p c = let h = opened true _ _ (sym (c .before .before .before .before .before .before .before .entry-check .ensures) ∙ c .before .before .before .before .before .e2 .given .1) in omega arith
 
--- src/lib.rt:56:21
 cast-p : tie.Need-cast-p
 cast-p c = omega (arith, c .slice-known8 .given 3)
 
--- src/lib.rt:57:17
 freed-map-requires : tie.Need-freed-map-requires
 freed-map-requires c κs = let h = opened true _ _ (sym (c .before .before .before .before .before .before .before .before .before .entry-check .ensures) ∙ c .before .before .before .before .before .before .before .e2 .given .1) in (omega arith, map-below _ _ _ _ _ _ _ h, omega arith, omega arith, page-below _ _ _ _ _ _ _ h)
 
--- src/lib.rt:58:17
 sweep-check-requires : tie.Need-sweep-check-requires
 sweep-check-requires c κs = let h = opened true _ _ (sym (c .before .before .before .before .before .before .before .before .before .before .before .before .before .entry-check .ensures) ∙ c .before .before .before .before .before .before .before .before .before .before .before .e2 .given .1) in (open-kept _ _ h, omega arith)
 
--- src/lib.rt:60:31
 enum-known-k : tie.Need-enum-known-k
 enum-known-k c = search needs
 
--- src/lib.rt:62:21
 enum-told : tie.Need-enum-told
 enum-told c = search needs
 
--- src/lib.rt:61:45
 sweep-step-requires : tie.Need-sweep-step-requires
 sweep-step-requires c κs = let h = opened true _ _ (sym (c .before .before .before .before .before .before .before .before .before .before .before .before .before .before .before .before .before .before .before .before .before .entry-check .ensures) ∙ c .before .before .before .before .before .before .before .before .before .before .before .before .before .before .before .before .before .before .before .e2 .given .1) in ((freed-below _ _ _ _ _ (c .before .before .before .before .before .before .before .before .before .before .before .freed-map .ensures), omega arith, page-below _ _ _ _ _ _ _ h, omega arith, omega arith, omega arith, omega arith), record-fits _ _ _ _ _ _ _ h _ (sym (c .before .before .before .before .before .before .before .sweep-check .ensures) ∙ c .before .before .before .before .before .enum-told .given .1))
 
--- src/lib.rt:35:1
 same-length-11 : tie.Need-same-length-11
 same-length-11 c = search needs
 
--- src/lib.rt:35:1
 same-length-12 : tie.Need-same-length-12
 same-length-12 c = search needs
 
--- src/lib.rt:35:1
 same-length-13 : tie.Need-same-length-13
 same-length-13 c = search needs
 
--- src/lib.rt:35:1
 same-length-14 : tie.Need-same-length-14
 same-length-14 c = search needs
 
--- src/lib.rt:35:1
 same-length-15 : tie.Need-same-length-15
 same-length-15 c = search needs
 
--- src/lib.rt:35:1
 returns-3 : tie.Need-returns-3
 unfolding callStep
 returns-3 c = entering-not _ _ _ _ (sym (c .before .before .before .entry-check .ensures) ∙ c .before .e .given .1)
 
--- src/lib.rt:35:1
 same-length-16 : tie.Need-same-length-16
 same-length-16 c = search needs
 
--- src/lib.rt:35:1
 same-length-17 : tie.Need-same-length-17
 same-length-17 c = search needs
 
--- src/lib.rt:35:1
 same-length-18 : tie.Need-same-length-18
 same-length-18 c = search needs
 
--- src/lib.rt:35:1
 same-length-19 : tie.Need-same-length-19
 same-length-19 c = search needs
 
--- src/lib.rt:35:1
 same-length-20 : tie.Need-same-length-20
 same-length-20 c = search needs
 
--- src/lib.rt:35:1
 returns-4 : tie.Need-returns-4
 unfolding callStep
 returns-4 c = step-full _ _ _ _ _ _ _ (c .before .before .before .before .before .before .before .before .before .before .before .before .if1 .left) (c .before .before .before .before .before .before .before .before .before .before .before .if2 .left) _ (c .before .before .before .before .before .before .before .freed-map .ensures) _ (sym (c .before .before .before .sweep-check .ensures) ∙ c .before .k .given .1) ∙ entering-go _ _ _ _ (sym (c .before .before .before .before .before .before .before .before .before .before .before .before .before .before .before .before .before .entry-check .ensures) ∙ c .before .before .before .before .before .before .before .before .before .before .before .before .before .before .before .e2 .given .1)
 
--- src/lib.rt:35:1
 same-length-21 : tie.Need-same-length-21
 same-length-21 c = search needs
 
--- src/lib.rt:35:1
 same-length-22 : tie.Need-same-length-22
 same-length-22 c = search needs
 
--- src/lib.rt:35:1
 same-length-23 : tie.Need-same-length-23
 same-length-23 c = search needs
 
--- src/lib.rt:35:1
 same-length-24 : tie.Need-same-length-24
 same-length-24 c = search needs
 
--- src/lib.rt:35:1
 same-length-25 : tie.Need-same-length-25
 same-length-25 c = search needs
 
--- src/lib.rt:35:1
 returns-5 : tie.Need-returns-5
 unfolding callStep
 returns-5 c = let q = c .before .before .before .before .before .before .before .before .before .before .sweep-step .ensures in step-sweeps _ _ _ _ _ _ _ (c .before .before .before .before .before .before .before .before .before .before .before .before .before .before .before .before .before .before .before .before .before .before .before .before .before .before .before .if1 .left) (c .before .before .before .before .before .before .before .before .before .before .before .before .before .before .before .before .before .before .before .before .before .before .before .before .before .before .if2 .left) _ (c .before .before .before .before .before .before .before .before .before .before .before .before .before .before .before .before .before .before .before .before .before .before .freed-map .ensures) _ _ (sym (c .before .before .before .before .before .before .before .before .before .before .before .before .before .before .before .before .before .before .sweep-check .ensures) ∙ c .before .before .before .before .before .before .before .before .before .before .before .before .before .before .before .before .enum-told .given .1) (q .0) (q .1 _) ∙ entering-go _ _ _ _ (sym (c .before .before .before .before .before .before .before .before .before .before .before .before .before .before .before .before .before .before .before .before .before .before .before .before .before .before .before .before .before .before .before .before .entry-check .ensures) ∙ c .before .before .before .before .before .before .before .before .before .before .before .before .before .before .before .before .before .before .before .before .before .before .before .before .before .before .before .before .before .before .e2 .given .1)

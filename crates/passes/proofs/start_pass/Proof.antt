@@ -1,6 +1,6 @@
 use native.Mathlib.Omega.{arith}
 use mathlib.Core.Bool.{true}
-use mathlib.Core.Path.{sym, ap, _∙_}
+use mathlib.Core.Path.{sym, _∙_}
 use Rattle.areas.specs.Entry.{entering-not, entering-go}
 use Rattle.acceptance.specs.Entered.{opened}
 use Rattle.areas.specs.Areas.{checked-pass, checked-refuse}
@@ -9,54 +9,39 @@ use Rattle.passes.specs.Stepping.{start-runs, start-idle, started-out}
 use borrow.Author.Needs.{needs}
 use Rattle.passes.proofs.start_pass.Statement.{statement}
 use Rattle.passes.proofs.start_pass.Tie as tie
-use Rattle.passes.proofs.start_pass.Reads as reads
-use Rattle.passes.proofs.start_pass.Lts as lts
-use Rattle.entry.proofs.entry_check.Reads as entry-check-reads
-use Rattle.marking.proofs.begin_pass.Reads as begin-pass-reads
 
--- src/lib.rt:21:9
 entry-check-requires : tie.Need-entry-check-requires
 entry-check-requires c κs = search needs
 
--- src/lib.rt:23:20
 enum-known-e : tie.Need-enum-known-e
 enum-known-e c = search needs
 
--- src/lib.rt:24:19
 enum-known-e-2 : tie.Need-enum-known-e-2
 enum-known-e-2 c = search needs
 
--- src/lib.rt:25:16
 slice-read-if1 : tie.Need-slice-read-if1
 slice-read-if1 c = let h = opened true _ _ (sym (c .before .before .before .before .entry-check .ensures) ∙ c .before .before .e2 .given .1) in omega arith
 
--- src/lib.rt:26:17
 same-length : tie.Need-same-length
 same-length c = search needs
 
--- src/lib.rt:26:17
 returns : tie.Need-returns
 unfolding callPass
 returns c = checked-refuse _ _ _ _ (start-runs _ (c .if1 .taken)) ∙ entering-go _ _ _ _ (sym (c .before .before .before .before .before .entry-check .ensures) ∙ c .before .before .before .e2 .given .1)
 
--- src/lib.rt:28:13
 begin-pass-requires : tie.Need-begin-pass-requires
 begin-pass-requires c κs = let h = opened true _ _ (sym (c .before .before .before .before .before .before .entry-check .ensures) ∙ c .before .before .before .before .e2 .given .1) in omega arith
 
--- src/lib.rt:11:1
 same-length-2 : tie.Need-same-length-2
 same-length-2 c = search needs
 
--- src/lib.rt:11:1
 returns-2 : tie.Need-returns-2
 unfolding callPass
 returns-2 c = entering-not _ _ _ _ (sym (c .before .before .before .entry-check .ensures) ∙ c .before .e .given .1)
 
--- src/lib.rt:11:1
 same-length-3 : tie.Need-same-length-3
 same-length-3 c = search needs
 
--- src/lib.rt:11:1
 returns-3 : tie.Need-returns-3
 unfolding callPass
 returns-3 c = started-out _ _ _ _ _ _ (c .before .before .begin-pass .ensures) ∙ checked-pass _ _ _ (start-idle _ (c .before .before .before .before .if1 .left)) ∙ entering-go _ _ _ _ (sym (c .before .before .before .before .before .before .before .before .before .entry-check .ensures) ∙ c .before .before .before .before .before .before .before .e2 .given .1)

@@ -1,34 +1,24 @@
-use native.Mathlib.Omega.{arith}
 use borrow.Author.Tests.{not-true, not-false}
 use Rattle.stability.specs.Checks.{empty-refuses, empty-passes}
 use borrow.Author.Needs.{needs}
 use Rattle.stability.proofs.empty_check.Statement.{statement}
 use Rattle.stability.proofs.empty_check.Tie as tie
-use Rattle.stability.proofs.empty_check.Reads as reads
-use Rattle.stability.proofs.empty_check.Lts as lts
-use Rattle.page_ops.proofs.copy.areas_agree.Reads as areas-agree-reads
 
--- src/lib.rt:90:17
 shared-slice-read-idle : tie.Need-shared-slice-read-idle
 shared-slice-read-idle c = search needs
 
--- src/lib.rt:90:34
 shared-slice-read-idle-2 : tie.Need-shared-slice-read-idle-2
 shared-slice-read-idle-2 c = search needs
 
--- src/lib.rt:90:47
 shared-slice-read-idle-3 : tie.Need-shared-slice-read-idle-3
 shared-slice-read-idle-3 c = search needs
 
--- src/lib.rt:91:17
 areas-agree-requires : tie.Need-areas-agree-requires
 areas-agree-requires c κs = search needs
 
--- src/lib.rt:92:9
 returns : tie.Need-returns
 returns c = empty-refuses _ _ _ _ _ (c .before .areas-agree .ensures) (c .before .before .before .before .before .before .before .before .before .pre .0) (not-true _ (c .if1 .taken))
 
--- src/lib.rt:86:1
 returns-2 : tie.Need-returns-2
 returns-2 c = empty-passes _ _ _ _ _ (c .before .areas-agree .ensures) (c .before .before .before .before .before .before .before .before .before .pre .0) (not-false _ (c .if1 .left))
 

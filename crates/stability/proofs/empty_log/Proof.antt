@@ -10,66 +10,48 @@ use lib.ListN.{length-set}
 use borrow.Author.Needs.{needs}
 use Rattle.stability.proofs.empty_log.Statement.{statement}
 use Rattle.stability.proofs.empty_log.Tie as tie
-use Rattle.stability.proofs.empty_log.Reads as reads
-use Rattle.stability.proofs.empty_log.Lts as lts
-use Rattle.entry.proofs.entry_check.Reads as entry-check-reads
-use Rattle.stability.proofs.empty_check.Reads as empty-check-reads
 
--- src/lib.rt:108:9
 entry-check-requires : tie.Need-entry-check-requires
 entry-check-requires c κs = search needs
 
--- src/lib.rt:110:20
 enum-known-e : tie.Need-enum-known-e
 enum-known-e c = search needs
 
--- src/lib.rt:112:49
 enum-told : tie.Need-enum-told
 enum-told c = search needs
 
--- src/lib.rt:112:17
 empty-check-requires : tie.Need-empty-check-requires
 empty-check-requires c κs = let h = opened true _ _ (sym (c .before .before .before .entry-check .ensures) ∙ c .before .enum-told .given .1) in (omega arith, omega arith, omega arith)
 
--- src/lib.rt:114:31
 enum-known-k : tie.Need-enum-known-k
 enum-known-k c = search needs
 
--- src/lib.rt:116:21
 enum-told-2 : tie.Need-enum-told-2
 enum-told-2 c = search needs
 
--- src/lib.rt:116:21
 slice-write-counts : tie.Need-slice-write-counts
 slice-write-counts c = let h = opened true _ _ (sym (c .before .before .before .before .before .before .entry-check .ensures) ∙ c .before .before .before .before .enum-told .given .1) in omega arith
 
--- src/lib.rt:117:21
 slice-write-counts-2 : tie.Need-slice-write-counts-2
 slice-write-counts-2 c = let h = opened true _ _ (sym (c .before .before .before .before .before .before .entry-check .ensures) ∙ c .before .before .before .before .enum-told .given .1) in simp length-set (omega arith)
 
--- src/lib.rt:98:1
 same-length : tie.Need-same-length
 same-length c = search needs
 
--- src/lib.rt:98:1
 returns : tie.Need-returns
 unfolding callEmpty
 returns c = entering-not _ _ _ _ (sym (c .before .before .before .entry-check .ensures) ∙ c .before .e .given .1)
 
--- src/lib.rt:98:1
 same-length-2 : tie.Need-same-length-2
 same-length-2 c = search needs
 
--- src/lib.rt:98:1
 returns-2 : tie.Need-returns-2
 unfolding callEmpty
 returns-2 c = checked-refuse _ _ _ _ (sym (c .before .before .before .empty-check .ensures ∙ empty-of _ _ _ _ _ _) ∙ c .before .k .given .1) ∙ entering-go _ _ _ _ (sym (c .before .before .before .before .before .before .before .entry-check .ensures) ∙ c .before .before .before .before .before .enum-told .given .1)
 
--- src/lib.rt:98:1
 same-length-3 : tie.Need-same-length-3
 same-length-3 c = search needs
 
--- src/lib.rt:98:1
 returns-3 : tie.Need-returns-3
 unfolding callEmpty
 returns-3 c = checked-pass _ _ _ (sym (c .before .before .empty-check .ensures ∙ empty-of _ _ _ _ _ _) ∙ c .enum-told2 .given .1) ∙ entering-go _ _ _ _ (sym (c .before .before .before .before .before .before .entry-check .ensures) ∙ c .before .before .before .before .enum-told .given .1)

@@ -10,65 +10,48 @@ use Rattle.calls.specs.Stability.{forceCheck, callForce}
 use borrow.Author.Needs.{needs}
 use Rattle.stability.proofs.force.Statement.{statement}
 use Rattle.stability.proofs.force.Tie as tie
-use Rattle.stability.proofs.force.Reads as reads
-use Rattle.stability.proofs.force.Lts as lts
-use Rattle.entry.proofs.entry_check.Reads as entry-check-reads
 
--- src/lib.rt:26:9
 entry-check-requires : tie.Need-entry-check-requires
 entry-check-requires c κs = search needs
 
--- src/lib.rt:28:20
 enum-known-e : tie.Need-enum-known-e
 enum-known-e c = search needs
 
--- src/lib.rt:30:26
 enum-told : tie.Need-enum-told
 enum-told c = search needs
 
--- src/lib.rt:30:26
 slice-read-stable : tie.Need-slice-read-stable
 slice-read-stable c = let h = opened true _ _ (sym (c .before .before .before .entry-check .ensures) ∙ c .before .enum-told .given .1) in omega arith
 
--- src/lib.rt:31:25
 slice-read-if1 : tie.Need-slice-read-if1
 slice-read-if1 c = let h = opened true _ _ (sym (c .before .before .before .before .entry-check .ensures) ∙ c .before .before .enum-told .given .1) in omega arith
 
--- src/lib.rt:32:29
 add-counts : tie.Need-add-counts
 add-counts c = omega (arith, c .before .slice-known3 .given 0)
 
--- src/lib.rt:32:17
 slice-write-counts : tie.Need-slice-write-counts
 slice-write-counts c = let h = opened true _ _ (sym (c .before .before .before .before .before .entry-check .ensures) ∙ c .before .before .before .enum-told .given .1) in omega arith
 
--- src/lib.rt:33:30
 add-t18 : tie.Need-add-t18
 add-t18 c = omega (arith, c .before .slice-known3 .given 0)
 
--- src/lib.rt:16:1
 same-length : tie.Need-same-length
 same-length c = search needs
 
--- src/lib.rt:16:1
 returns : tie.Need-returns
 unfolding callForce
 returns c = entering-not _ _ _ _ (sym (c .before .before .before .entry-check .ensures) ∙ c .before .e .given .1)
 
--- src/lib.rt:16:1
 same-length-2 : tie.Need-same-length-2
 same-length-2 c = search needs
 
--- src/lib.rt:16:1
 returns-2 : tie.Need-returns-2
 unfolding callForce forceCheck
 returns-2 c = checked-pass _ _ _ (sym (need-holds _ _ _ (lt-ltb _ _ (c .if1 .taken)))) ∙ entering-go _ _ _ _ (sym (c .before .before .before .before .before .entry-check .ensures) ∙ c .before .before .before .enum-told .given .1)
 
--- src/lib.rt:16:1
 same-length-3 : tie.Need-same-length-3
 same-length-3 c = search needs
 
--- src/lib.rt:16:1
 returns-3 : tie.Need-returns-3
 unfolding callForce forceCheck
 returns-3 c = checked-refuse _ _ _ _ (sym (need-fails _ _ _ (le-ltb _ _ (c .if1 .left)))) ∙ entering-go _ _ _ _ (sym (c .before .before .before .before .before .entry-check .ensures) ∙ c .before .before .before .enum-told .given .1)

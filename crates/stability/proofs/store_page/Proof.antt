@@ -9,63 +9,45 @@ use Rattle.calls.specs.Stability.{callStore}
 use borrow.Author.Needs.{needs}
 use Rattle.stability.proofs.store_page.Statement.{statement}
 use Rattle.stability.proofs.store_page.Tie as tie
-use Rattle.stability.proofs.store_page.Reads as reads
-use Rattle.stability.proofs.store_page.Lts as lts
-use Rattle.entry.proofs.entry_check.Reads as entry-check-reads
-use Rattle.page_ops.proofs.copy.copy_page.Reads as copy-page-reads
-use Rattle.stability.proofs.store_check.Reads as store-check-reads
 
--- src/lib.rt:69:9
 entry-check-requires : tie.Need-entry-check-requires
 entry-check-requires c κs = search needs
 
--- src/lib.rt:71:20
 enum-known-e : tie.Need-enum-known-e
 enum-known-e c = search needs
 
--- src/lib.rt:72:19
 enum-known-e-2 : tie.Need-enum-known-e-2
 enum-known-e-2 c = search needs
 
--- src/lib.rt:73:17
 store-check-requires : tie.Need-store-check-requires
 store-check-requires c κs = let h = opened true _ _ (sym (c .before .before .before .entry-check .ensures) ∙ c .before .e2 .given .1) in (omega arith, omega arith, omega arith, omega arith, h .ranged .records-sound)
 
--- src/lib.rt:75:31
 enum-known-k : tie.Need-enum-known-k
 enum-known-k c = search needs
 
--- src/lib.rt:77:55
 enum-told : tie.Need-enum-told
 enum-told c = search needs
 
--- src/lib.rt:77:21
 copy-page-requires : tie.Need-copy-page-requires
 copy-page-requires c κs = store-fits _ _ _ _ _ _ _ _ (sym (c .before .before .before .before .before .before .before .entry-check .ensures) ∙ c .before .before .before .before .before .e2 .given .1) (sym (c .before .before .before .store-check .ensures) ∙ c .before .enum-told .given .1)
 
--- src/lib.rt:58:1
 same-length : tie.Need-same-length
 same-length c = search needs
 
--- src/lib.rt:58:1
 returns : tie.Need-returns
 unfolding callStore
 returns c = entering-not _ _ _ _ (sym (c .before .before .before .entry-check .ensures) ∙ c .before .e .given .1)
 
--- src/lib.rt:58:1
 same-length-2 : tie.Need-same-length-2
 same-length-2 c = search needs
 
--- src/lib.rt:58:1
 returns-2 : tie.Need-returns-2
 unfolding callStore
 returns-2 c = checked-refuse _ _ _ _ (sym (c .before .before .before .store-check .ensures ∙ store-of _ _ _ _ _ _ _ _) ∙ c .before .k .given .1) ∙ entering-go _ _ _ _ (sym (c .before .before .before .before .before .before .before .entry-check .ensures) ∙ c .before .before .before .before .before .e2 .given .1)
 
--- src/lib.rt:58:1
 same-length-3 : tie.Need-same-length-3
 same-length-3 c = search needs
 
--- src/lib.rt:58:1
 returns-3 : tie.Need-returns-3
 unfolding callStore
 returns-3 c = stored-out _ _ _ _ _ _ (c .before .before .copy-page .ensures) ∙ checked-pass _ _ _ (sym (c .before .before .before .before .before .before .store-check .ensures ∙ store-of _ _ _ _ _ _ _ _) ∙ c .before .before .before .before .enum-told .given .1) ∙ entering-go _ _ _ _ (sym (c .before .before .before .before .before .before .before .before .before .before .entry-check .ensures) ∙ c .before .before .before .before .before .before .before .before .e2 .given .1)

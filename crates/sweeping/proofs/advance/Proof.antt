@@ -1,47 +1,33 @@
-use native.Mathlib.Omega.{arith}
 use mathlib.Core.Path.{_∙_}
 use Rattle.sweeping.specs.Sweeps.{advanced-on, advanced-over}
 use borrow.Author.Needs.{needs}
 use Rattle.sweeping.proofs.advance.Statement.{statement}
 use Rattle.sweeping.proofs.advance.Tie as tie
-use Rattle.sweeping.proofs.advance.Reads as reads
-use Rattle.sweeping.proofs.advance.Lts as lts
-use Rattle.marking.proofs.put_pass.Reads as put-pass-reads
-use Rattle.marking.proofs.steps_next.Reads as steps-next-reads
 
--- src/lib.rt:116:16
 add-next : tie.Need-add-next
 add-next c = search needs
 
--- src/lib.rt:118:13
 steps-next-requires : tie.Need-steps-next-requires
 steps-next-requires c κs = search needs
 
--- src/lib.rt:119:36
 cast-put-pass : tie.Need-cast-put-pass
 cast-put-pass c = search needs
 
--- src/lib.rt:119:9
 put-pass-requires : tie.Need-put-pass-requires
 put-pass-requires c κs = search needs
 
--- src/lib.rt:120:9
 same-length : tie.Need-same-length
 same-length c = search needs
 
--- src/lib.rt:120:9
 returns : tie.Need-returns
 returns c = c .before .before .put-pass .ensures ∙ advanced-on _ _ _ _ (c .before .before .before .before .steps-next .ensures) (c .before .before .before .before .before .before .if1 .taken)
 
--- src/lib.rt:122:5
 put-pass-requires-2 : tie.Need-put-pass-requires-2
 put-pass-requires-2 c κs = search needs
 
--- src/lib.rt:112:1
 same-length-2 : tie.Need-same-length-2
 same-length-2 c = search needs
 
--- src/lib.rt:112:1
 returns-2 : tie.Need-returns-2
 returns-2 c = c .before .before .put-pass2 .ensures ∙ advanced-over _ _ _ (c .before .before .before .before .if1 .left)
 

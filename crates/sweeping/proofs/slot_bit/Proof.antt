@@ -1,22 +1,15 @@
-use native.Mathlib.Omega.{arith}
 use mathlib.Core.Path.{sym, _∙_}
 use Rattle.words.specs.Tests.{if-t, if-f}
 use borrow.Author.Needs.{needs}
 use Rattle.sweeping.proofs.slot_bit.Statement.{statement}
 use Rattle.sweeping.proofs.slot_bit.Tie as tie
-use Rattle.sweeping.proofs.slot_bit.Reads as reads
-use Rattle.sweeping.proofs.slot_bit.Lts as lts
-use Rattle.page_ops.proofs.bits.mask_of.Reads as mask-of-reads
 
--- src/lib.rt:34:17
 mask-of-requires : tie.Need-mask-of-requires
 mask-of-requires c κs = search needs
 
--- src/lib.rt:30:1
 returns : tie.Need-returns
 returns c = c .mask-of .ensures ∙ sym (if-t _ _ _ (c .before .if1 .taken))
 
--- src/lib.rt:30:1
 returns-2 : tie.Need-returns-2
 returns-2 c = sym (if-f _ _ _ (c .if1 .left))
 

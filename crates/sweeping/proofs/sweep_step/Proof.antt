@@ -4,53 +4,37 @@ use Rattle.sweeping.specs.Sweeps.{swept-none, swept-some}
 use borrow.Author.Needs.{needs}
 use Rattle.sweeping.proofs.sweep_step.Statement.{statement}
 use Rattle.sweeping.proofs.sweep_step.Tie as tie
-use Rattle.sweeping.proofs.sweep_step.Reads as reads
-use Rattle.sweeping.proofs.sweep_step.Lts as lts
-use Rattle.page_ops.proofs.bits.slots_set.Reads as slots-set-reads
-use Rattle.sweeping.proofs.advance.Reads as advance-reads
-use Rattle.sweeping.proofs.sweep_page.Reads as sweep-page-reads
 
--- src/lib.rt:141:5
 advance-requires : tie.Need-advance-requires
 advance-requires c κs = search needs
 
--- src/lib.rt:143:9
 sweep-page-requires : tie.Need-sweep-page-requires
 sweep-page-requires c κs = let q = c .before .before .before .before .before .before .before .before .before .before .before .before .before .before .pre .1 (c .before .before .before .before .if1 .taken) in omega arith
 
--- src/lib.rt:144:9
 slots-set-requires : tie.Need-slots-set-requires
 slots-set-requires c κs = search needs
 
--- src/lib.rt:144:9
 same-length : tie.Need-same-length
 same-length c = search needs
 
--- src/lib.rt:144:9
 same-length-2 : tie.Need-same-length-2
 same-length-2 c = search needs
 
--- src/lib.rt:144:9
 same-length-3 : tie.Need-same-length-3
 same-length-3 c = search needs
 
--- src/lib.rt:144:9
 same-length-4 : tie.Need-same-length-4
 same-length-4 c = search needs
 
--- src/lib.rt:144:9
 same-length-5 : tie.Need-same-length-5
 same-length-5 c = search needs
 
--- src/lib.rt:144:9
 returns : tie.Need-returns
 returns c = let q = c .before .before .before .before .before .before .before .before .before .sweep-page .ensures in (c .slots-set .ensures, λ s. swept-some s _ _ _ _ _ _ _ _ (c .before .before .before .before .before .before .before .before .before .before .before .before .before .before .if1 .taken) (q .0) (q .1) (q .2) (q .3) (c .before .before .before .before .before .before .before .before .before .before .before .before .before .before .before .before .before .advance .ensures))
 
--- src/lib.rt:126:1
 same-length-6 : tie.Need-same-length-6
 same-length-6 c = search needs
 
--- src/lib.rt:126:1
 returns-2 : tie.Need-returns-2
 returns-2 c = (none-set _ (c .if1 .left), λ s. swept-none s _ _ _ _ _ _ _ _ _ (c .if1 .left) (c .before .before .before .advance .ensures))
 

@@ -8,10 +8,6 @@ use Rattle.sweeping.specs.Maps.{slot-next, slot-fits, map-end}
 use Rattle.sweeping.specs.Sweeps.{unmarkedMap}
 use Rattle.sweeping.proofs.unmarked_map.Statement.{statement}
 use Rattle.sweeping.proofs.unmarked_map.Tie as tie
-use Rattle.sweeping.proofs.unmarked_map.Reads as reads
-use Rattle.sweeping.proofs.unmarked_map.Lts as lts
-use Rattle.sweeping.proofs.slot_bit.Reads as slot-bit-reads
-use Rattle.sweeping.proofs.unmarked.Reads as unmarked-reads
 
 abbrev Inv-loop : tie.InvT-loop
 Inv-loop work n p m₀ s₀ m s = (s ≤ 16) × (m ≡ mapOf (unmarked work n p) s)
@@ -19,36 +15,28 @@ Inv-loop work n p m₀ s₀ m s = (s ≤ 16) × (m ≡ mapOf (unmarked work n p)
 abbrev μ-loop : tie.MeasureT-loop
 μ-loop work n p m₀ s₀ m s = 16 - s
 
--- src/lib.rt:43:5
 loop-holds : tie.Need-loop-holds Inv-loop μ-loop
 unfolding mapOf
 loop-holds c = (omega arith, refl)
 
--- src/lib.rt:44:23
 unmarked-requires : tie.Need-unmarked-requires Inv-loop μ-loop
 unmarked-requires c κs = search needs
 
--- src/lib.rt:44:14
 slot-bit-requires : tie.Need-slot-bit-requires Inv-loop μ-loop
 slot-bit-requires c κs = search needs
 
--- src/lib.rt:44:9
 add-m : tie.Need-add-m Inv-loop μ-loop
 add-m c = let h = slot-fits _ _ _ _ _ (c .before .before .before .loop .inv .1) (c .slot-bit .ensures) (c .before .unmarked .ensures) (omega arith) in record { fits = omega arith }
 
--- src/lib.rt:43:9
 add-s : tie.Need-add-s Inv-loop μ-loop
 add-s c = search needs
 
--- src/lib.rt:43:5
 loop-less : tie.Need-loop-less Inv-loop μ-loop
 loop-less c = search needs
 
--- src/lib.rt:43:5
 loop-again : tie.Need-loop-again Inv-loop μ-loop
 loop-again c = (search needs, slot-next _ _ _ _ _ (c .before .before .before .loop .inv .1) (c .slot-bit .ensures) (c .before .unmarked .ensures))
 
--- src/lib.rt:38:1
 returns : tie.Need-returns Inv-loop μ-loop
 unfolding unmarkedMap
 returns c = map-end _ _ _ _ (c .before .loop .inv .1) (omega arith)

@@ -1,0 +1,57 @@
+use native.Mathlib.Omega.{arith}
+use mathlib.Core.Path.{sym, _∙_}
+use borrow.Author.Tests.{not-true, not-false}
+use Rattle.aborts.specs.Aborts.{abort-outside, abort-inactive, abort-passes, abort-full, few-found}
+use mathlib.Core.List.{[]}
+use borrow.Author.Needs.{needs}
+use Rattle.aborts.proofs.aborting.abort_check.Statement.{statement}
+use Rattle.aborts.proofs.aborting.abort_check.Tie as tie
+
+returns : tie.Need-returns
+returns c = abort-outside _ _ (c .if1 .taken)
+
+has-requires : tie.Need-has-requires
+has-requires c κs = search needs
+
+returns-2 : tie.Need-returns-2
+returns-2 c = abort-inactive _ _ (c .before .before .if1 .left) (sym (c .before .has .ensures) ∙ not-true _ (c .if2 .taken))
+
+shared-slice-read-changes-left : tie.Need-shared-slice-read-changes-left
+shared-slice-read-changes-left c = search needs
+
+cast-changes-left : tie.Need-cast-changes-left
+cast-changes-left c = search needs
+
+changes-left-requires : tie.Need-changes-left-requires
+changes-left-requires c κs = search needs
+
+cast-room-within : tie.Need-cast-room-within
+cast-room-within c = search needs
+
+add-room-within : tie.Need-add-room-within
+add-room-within c = search needs
+
+room-within-requires : tie.Need-room-within-requires
+room-within-requires c κs = let f = few-found [] _ _ _ (c .changes-left .ensures []) in let k = c .before .before .before .before .before .before .before .before .pre .0 in omega arith
+
+returns-3 : tie.Need-returns-3
+returns-3 c = abort-passes _ _ (c .before .before .before .before .before .before .if1 .left) (sym (c .before .before .before .before .before .has .ensures) ∙ not-false _ (c .before .before .before .before .if2 .left)) (c .before .before .changes-left .ensures _) (sym (c .before .room-within .ensures) ∙ c .if3 .taken)
+
+returns-4 : tie.Need-returns-4
+returns-4 c = abort-full _ _ (c .before .before .before .before .before .before .if1 .left) (sym (c .before .before .before .before .before .has .ensures) ∙ not-false _ (c .before .before .before .before .if2 .left)) (c .before .before .changes-left .ensures _) (sym (c .before .room-within .ensures) ∙ c .if3 .left)
+
+pub abort-check-spec : {M : Type 1} → statement M
+abort-check-spec =
+    tie.close
+    (tie.spec
+    returns
+    has-requires
+    returns-2
+    shared-slice-read-changes-left
+    cast-changes-left
+    changes-left-requires
+    cast-room-within
+    add-room-within
+    room-within-requires
+    returns-3
+    returns-4)

@@ -1,0 +1,129 @@
+-- The check of an abort, the restored copies and its outcome, of the lists that the code has. n is the number of pages. Assumes nothing.
+use Prim.Native.Nat.{ℕ, zero, suc, _+_, _*_, _/_, _<_, _≤_}
+use mathlib.Core.Path.{_≡_, refl, sym, ap, _∙_}
+use mathlib.Core.Bool.{Bool, true, false}
+use mathlib.Core.List.{List, [], _∷_}
+use lib.ListN.{length, getD, set}
+use lib.Seq.{getD-set-same}
+use native.Mathlib.Numerals.{add-one}
+use native.Mathlib.Omega.{arith}
+use borrow.Author.Tests.{lt-ltb, le-ltb}
+use Rattle.words.specs.Tests.{if, by-bool}
+use Rattle.pages.specs.Objects.{copiedPage}
+use Rattle.records.specs.Records.{recordAt, recorded, abortedOf, isBegin, isChange}
+use Rattle.records.specs.Effects.{effect, undoing}
+use Rattle.records.specs.Changes.{changesIn, changesLeft}
+use Rattle.record_laws.specs.RecordLaws.{begunIn}
+use Rattle.areas.specs.declared.Refusal.the-variants.{OutOfRange, WrongState, LogFull}
+use Rattle.areas.specs.declared.Check.{Check}
+use Rattle.areas.specs.declared.Check.the-variants.{Pass, Refuse}
+use Rattle.areas.specs.declared.Answer.the-variants.{Done}
+use Rattle.areas.specs.Answers.{need-holds, need-fails}
+use Rattle.areas.specs.Areas.{Areas, Out, areas, out, receivedCount, withCopies, withWork, appended}
+use Rattle.areas.specs.Tables.{isActive, canWrite}
+use Rattle.areas.specs.Entry.{records}
+use Rattle.calls.specs.Room.{roomWithin}
+use Rattle.calls.specs.Transactions.{endedTables, changesOf, rolledBack, restored, abortCheck, aborted}
+use Rattle.acceptance.specs.Entered.{Open}
+use Rattle.acceptance.specs.Transactions.{abort-facts}
+use Rattle.record_laws.specs.EffectLaws.{sound-for}
+use Rattle.store_ops.specs.Logs.{Fits, counted, open-kept}
+use Rattle.store_ops.specs.Kinds.{aborted-sound}
+use Rattle.aborts.specs.Rolling.{Undoable}
+
+-- no more changes than records
+few-changes : (g : List ℕ) (t c : ℕ) → length (changesIn g t c) ≤ c
+unfolding changesIn
+few-changes g t zero = omega arith
+few-changes g t (suc i) = let h = few-changes g t i in by-bool (isBegin (recordAt g i) t)
+    (λ e. rw e (omega arith))
+    (λ e. by-bool (isChange (recordAt g i) t) (λ d. rw (e, d) (omega arith)) (λ d. rw (e, d) (omega arith)))
+
+few-left : (w g : List ℕ) (c t : ℕ) → length (changesLeft w g c t) ≤ c
+unfolding changesLeft
+few-left w g c t = by-bool (begunIn g t c) (λ e. rw e (few-changes g t c)) (λ e. rw e (omega arith))
+
+-- the check, of the lists that it reads
+pub abort-as : (s c r g k w : List ℕ) (t : ℕ) {x : Check} → x ≡ abortCheck (areas [] [] [] g k w) t → x ≡ abortCheck (areas s c r g k w) t
+unfolding abortCheck
+abort-as s c r g k w t e = e
+
+module _ (s : Areas) (t : ℕ) where
+  pub abort-outside : 16 ≤ t → Refuse OutOfRange ≡ abortCheck s t
+  unfolding abortCheck
+  abort-outside h = need-fails _ _ _ (le-ltb t 16 h)
+
+  module _ (h : t < 16) where
+    pub abort-inactive : isActive (s .work) t ≡ false → Refuse WrongState ≡ abortCheck s t
+    unfolding abortCheck
+    abort-inactive a = need-fails _ _ _ a ∙ need-holds _ _ _ (lt-ltb t 16 h)
+
+    -- left: what the code found
+    module _ (a : isActive (s .work) t ≡ true) {left : ℕ} (e : left ≡ length (changesOf s t)) where
+      pub abort-passes : roomWithin s (left + 1) ≡ true → Pass ≡ abortCheck s t
+      unfolding abortCheck
+      abort-passes b = need-holds _ _ _ (ap (λ (x : ℕ). roomWithin s (x + 1)) (sym e) ∙ b) ∙ need-holds _ _ _ a ∙ need-holds _ _ _ (lt-ltb t 16 h)
+
+      pub abort-full : roomWithin s (left + 1) ≡ false → Refuse LogFull ≡ abortCheck s t
+      unfolding abortCheck
+      abort-full b = need-fails _ _ _ (ap (λ (x : ℕ). roomWithin s (x + 1)) (sym e) ∙ b) ∙ need-holds _ _ _ a ∙ need-holds _ _ _ (lt-ltb t 16 h)
+
+pub few-found : (w g : List ℕ) (c t : ℕ) {left : ℕ} → left ≡ length (changesLeft w g c t) → left ≤ c
+few-found w g c t e = let h = few-left w g c t in omega arith
+
+-- which changes are left is not asked of the tables
+left-any : (w g : List ℕ) (c t : ℕ) → changesLeft w g c t ≡ changesLeft [] g c t
+unfolding changesLeft
+left-any w g c t = refl
+
+-- what the code that makes the change needs of an abort whose check passed
+pub abort-ready : (s : Areas) (n t : ℕ) → Open s n → abortCheck s t ≡ Pass →
+    Undoable (s .received) (s .log) (s .counts) t
+    × ((length (s .work) ≡ 6 + 67 * n) × (length (s .received) ≡ 129 * n) × (length (s .copies) ≡ 129 * n) × (t < 32))
+abort-ready s n t o h =
+    let f = abort-facts s t h in
+    let z = o .sized in
+    let e : length (changesLeft [] (s .log) (receivedCount s) t) ≡ length (changesOf s t) = ap length (sym (left-any (s .work) (s .log) (receivedCount s) t)) in
+    let r = f .room in (
+      record {
+        kept = open-kept s n o;
+        sound = (let m : length (s .received) / 129 ≡ n = omega arith in rw m (o .ranged .records-sound));
+        txn = f .txn;
+        room = omega arith;
+        top = z .log-top;
+      },
+      (z .work-len, z .received-len, z .copies-len, omega arith),
+    )
+
+-- one more page restored
+pub restored-next : (w received copies : List ℕ) (n t p : ℕ) (c : List ℕ) → c ≡ restored w n t received copies p → {d : List ℕ} →
+    d ≡ if (canWrite w n t p) (copiedPage received c p) c → d ≡ restored w n t received copies (p + 1)
+unfolding restored
+restored-next w received copies n t p c h e =
+    e ∙ ap (λ (x : List ℕ). if (canWrite w n t p) (copiedPage received x p) x) h ∙ ap (restored w n t received copies) (sym (add-one p))
+
+-- the pages, the log and the counts do not depend on the other areas
+rolled-other : (g l s c a h k w : List ℕ) → rolledBack g l (areas s c a h k w) ≡ (let z = rolledBack g l (areas [] [] a h k []) in areas s c (z .received) (z .log) (z .counts) w)
+unfolding rolledBack appended
+rolled-other g [] s c a h k w = refl
+rolled-other g (i ∷ is) s c a h k w =
+    rolled-other g is s c (effect a (undoing (recordAt g i))) (recorded h (getD k 0 0) (undoing (recordAt g i))) (set k 0 (getD k 0 0 + 1)) w
+
+-- an abort from the areas z that its undoing records leave; c and w: the copies and the tables before it
+abbrev endedFrom : List ℕ → List ℕ → ℕ → ℕ → Areas → Areas
+endedFrom c w n t z = let a = appended z (abortedOf t) in withWork (withCopies a (restored w n t (a .received) c n)) (endedTables w n t)
+
+-- .. as the code leaves the pages, the log and the counts of b
+abbrev endedAs : List ℕ → List ℕ → List ℕ → ℕ → ℕ → Areas → Out
+endedAs s c w n t b = out (Done (receivedCount b)) s (restored w n t (b .received) c n) (b .received) (b .log) (b .counts) (endedTables w n t)
+
+-- the outcome
+module _ (s c a g k w : List ℕ) (n t x : ℕ) (c′ a′ g′ k′ w′ : List ℕ) where
+  pub aborted-out :
+      (areas [] [] a′ g′ k′ [] ≡ appended (rolledBack g (changesLeft [] g (getD k 0 0) t) (areas [] [] a g k [])) (abortedOf t)) × (x ≡ getD k′ 0 0) →
+      c′ ≡ restored w n t a′ c n → w′ ≡ endedTables w n t → out (Done x) s c′ a′ g′ k′ w′ ≡ counted (aborted (areas s c a g k w) n t)
+  unfolding aborted appended
+  aborted-out e hc hw =
+      rw (e .1, hc, hw) (ap (endedAs s c w n t) (e .0))
+      ∙ ap (λ (z : Areas). counted (endedFrom c w n t z))
+      (sym (ap (λ (l : List ℕ). rolledBack g l (areas s c a g k w)) (left-any w g (getD k 0 0) t) ∙ rolled-other g (changesLeft [] g (getD k 0 0) t) s c a g k w))

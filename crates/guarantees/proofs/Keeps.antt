@@ -1,0 +1,303 @@
+-- Every accepted call of an open store keeps it fine. n is the number of pages. Assumes nothing.
+use Prim.Native.Nat.{ℕ, zero, suc, _+_, _*_, _≤_, _<_}
+use native.Mathlib.Omega.{arith}
+use mathlib.Core.Path.{_≡_, refl, sym, ap, _∙_}
+use mathlib.Core.Bool.{Bool, true, false, _&&_}
+use mathlib.Core.List.{List, [], _∷_}
+use mathlib.Core.Logic.{_⊎_, inl, inr}
+use lib.ListN.{length, set, length-set}
+use lib.Seq.{getD-set-same, getD-set-other}
+use lib.Dec.{eqb, leb}
+use borrow.Author.Tests.{lt-ltb, eq-eqb, ne-eqb, eqb-false, eqb-true}
+use Rattle.words.specs.Tests.{if, by-bool, clash, and-split}
+use Rattle.words.specs.Bits.{bit}
+use Rattle.pages.specs.Geometry.{pageOf, slotOf, root, isRefAt}
+use Rattle.pages.specs.Objects.{occupied, wordOf, released, copiedPage}
+use Rattle.pages.specs.Soundness.{areaSound}
+use Rattle.page_laws.specs.SoundFacts.{occupy-sound, written-sound, released-sound, copied-sound}
+use Rattle.page_laws.specs.ViewLaws.{length-copied}
+use Rattle.page_laws.specs.Places.{length-released-in}
+use Rattle.records.specs.declared.Record.{Record}
+use Rattle.records.specs.Records.{recordAt, recorded, beginOf, commitOf, abortedOf, createOf, setOf, sweepOf, isBegin}
+use Rattle.records.specs.Changes.{changesLeft}
+use Rattle.records.specs.Effects.{effect}
+use Rattle.records.specs.Soundness.{recordSound}
+use Rattle.records.specs.Order.{openIn}
+use Rattle.record_laws.specs.RecordLaws.{log-sound-records, records-sound-at, recorded-same, recorded-length}
+use Rattle.areas.specs.declared.Check.{Check}
+use Rattle.areas.specs.declared.Check.the-variants.{Pass}
+use Rattle.areas.specs.Answers.{accepted}
+use Rattle.areas.specs.Areas.{Areas, Out, receivedCount, stableCount, withWork, withCopies, withStored, withCounts, appended}
+use Rattle.areas.specs.Layout.{unflushedAt, phaseAt, passPageAt, activeAt}
+use Rattle.areas.specs.Tables.{at, lose, canWrite}
+use Rattle.areas.specs.Entry.{pages, records, reopening, readiness}
+use Rattle.calls.specs.Locks.{readLocked, writeLocked}
+use Rattle.calls.specs.Objects.{learned, created, wordSet, flushed}
+use Rattle.calls.specs.Pass.{passStarted, sweptPage, freedMap, sweepMap, locked, advanced}
+use Rattle.calls.specs.Stability.{emptied}
+use Rattle.calls.specs.Transactions.{begun, committed, rolledBack, restored, aborted, changesOf, endedTables}
+use Rattle.acceptance.specs.Entered.{Open, opened}
+use Rattle.acceptance.specs.Ran.{Outcome}
+use Rattle.acceptance.specs.Room.{Room}
+use Rattle.acceptance.specs.Transactions.{BeginFacts, CommitFacts, AbortFacts}
+use Rattle.acceptance.specs.Objects.{CreateFacts, SetFacts, FlushFacts, known-facts}
+use Rattle.acceptance.specs.Stability.{ForceFacts, StoreFacts, EmptyFacts}
+use Rattle.book.specs.Lines.{Line, line, left, hasCommit, pagesAfter}
+use Rattle.book.specs.Books.{Book, countsCommitted, countsFull, committedLines, fullLines, committedPages, fullPages}
+use Rattle.book.specs.Feeding.{adds, learns, begins}
+use Rattle.collector.proofs.Known.{known-there}
+use Rattle.collector.specs.Objects.{Obj}
+use Rattle.views.specs.View.{view}
+use Rattle.views.proofs.Sound.{sound-record}
+use Rattle.shown.specs.Tables.{locksOf}
+use Rattle.shown.proofs.Facts.{act-is, kn-is}
+use Rattle.recovery.proofs.Changes.{changes-left}
+use Rattle.recovery.proofs.Maps.{Small}
+use Rattle.recovery.proofs.Reversal.{view-occ}
+use Rattle.recovery.proofs.Reopening.{log-sound}
+use Rattle.recovery.proofs.Rolling.{Undoable, changes-undoable, rolled-rest}
+use Rattle.book_laws.specs.Seen.{Seen, committedOf, seenCommitted, seenFull}
+use Rattle.book_laws.specs.Keeping.{Runs}
+use Rattle.book_laws.specs.After.{committedBy, abortedBy, sweptBy}
+use Rattle.book_laws.proofs.Changes.{abort-length}
+use Rattle.book_laws.proofs.Committed.{abort-part, abort-before}
+use Rattle.book_laws.proofs.Ending.{commit-committed, abort-full}
+use Rattle.book_laws.proofs.Ends.{unended}
+use Rattle.book_laws.proofs.Feeding.{begin-committed, adds-committed}
+use Rattle.book_laws.proofs.Pages.{committed-view, full-view, full-length, state-length}
+use Rattle.demand.proofs.State.{machine, OpenInv}
+use Rattle.demand.proofs.Change.{machine-shows, full-shown}
+use Rattle.demand.proofs.Shared.{small-after}
+use Rattle.demand.proofs.Restored.{length-restored}
+use Rattle.guarantees.proofs.Tables.{Within, working-within, begun-within, ended-within, created-within, set-tables-within, lose-within, advanced-within}
+use Rattle.guarantees.proofs.Reserve.{share, held, Others, held-but, others-more, held-begin, held-change, held-sweep, ended-share, More, one-more, rolled-more}
+use Rattle.guarantees.proofs.Sound.{either-sound, Firm, firm-more, firm-idle, firm-many, swept-lines}
+use Rattle.guarantees.proofs.Fine.{Fine, resized, open-fine, held-none, reserved-held, quiet-fine, added-fine}
+
+-- an appended record leaves the stored pages; one that ends t leaves it no share
+appended-stored : (a : Areas) (r : Record) → appended a r .stored ≡ a .stored
+unfolding appended
+appended-stored a r = refl
+
+last-share : (t : ℕ) (a : Areas) → 6 * receivedCount a + 6 ≤ length (a .log) → receivedCount (appended a (abortedOf t)) ≡ receivedCount a + 1
+    → share (appended a (abortedOf t) .log) (receivedCount (appended a (abortedOf t))) t ≡ 0
+unfolding appended
+last-share t a l e = rw e (ended-share (a .log) (receivedCount a) (abortedOf t) l t refl refl refl)
+
+module _ (n : ℕ) (some : 1 ≤ n) (s : Areas) (b : Book) (i : OpenInv n s b) (f : Fine n s b) (h : Open s n) where
+  pub within : Within (s .work) n
+  within = working-within (s .work) n (h .sized .work-len) (h .ranged .working)
+
+  -- 'need 2 beyond used and reserved', by the log
+  beyond : (k : ℕ) → Room s k → receivedCount s + held (s .log) (receivedCount s) + k ≤ records s
+  beyond k r = rw (reserved-held n s b i) at r
+
+  long : (k : ℕ) → 1 ≤ k → receivedCount s + k ≤ records s → 6 * receivedCount s + 6 ≤ length (s .log)
+  long k l m = let e = h .sized .log-len in omega arith
+
+  runs : (t : ℕ) → t < 16 → bit (at (s .work) activeAt) t ≡ true → Runs b t
+  runs t l a = i .active t (act-is s n (machine n s b) (machine-shows n s b) t l ∙ a)
+
+  opens : (t : ℕ) → t < 16 → bit (at (s .work) activeAt) t ≡ true → bit (openIn (s .log) (receivedCount s)) t ≡ true
+  opens t l a = i .log .open-ones t l ∙ act-is s n (machine n s b) (machine-shows n s b) t l ∙ a
+
+  committed-sound : areaSound (committedPages n b) n ≡ true
+  unfolding committedLines committedOf
+  committed-sound = f .firm 0 (omega arith)
+
+  -- begin
+  pub begun-fine : (t : ℕ) → BeginFacts s t → OpenInv n (begun s n t) (begins b t) → Fine n (begun s n t) (begins b t)
+  unfolding begun effect
+  begun-fine t k j =
+      let room = beyond 2 (k .room) in
+      let hold = held-begin (s .log) (receivedCount s) (beginOf t) (long 2 (omega arith) (omega arith)) t (k .txn) (eq-eqb t t refl) refl in
+      let idle : b .running t ≡ 0 = stopped-one t k in
+      added-fine n some s b (begins b t) (beginOf t) _ j f h (begun-within (s .work) n some within t (k .txn)) (h .ranged .received-sound)
+      (firm-idle n b (begins b t) (line (beginOf t) (b .begun + 1)) refl refl (i .book .stable) (begin-committed b (i .book) t (k .txn) idle) (f .firm)) (omega arith)
+    where
+      stopped-one : (t : ℕ) → BeginFacts s t → b .running t ≡ 0
+      stopped-one t k = by-bool (eqb (b .running t) 0) (λ e. eqb-true _ _ e)
+          (λ e. clash (sym (act-is s n (machine n s b) (machine-shows n s b) t (k .txn)) ∙ i .runs t (eqb-false _ _ e)) (k .inactive))
+
+  -- create and set
+  pub created-fine : (t o : ℕ) → CreateFacts s n t o → OpenInv n (created s n t o) (learns (adds b t (createOf t o)) t (eqb o)) → Fine n (created s n t o) (learns (adds b t (createOf t o)) t (eqb o))
+  unfolding created effect
+  created-fine t o k j =
+      let room = beyond 2 (k .room) in
+      let hold = held-change (s .log) (receivedCount s) (createOf t o) (long 2 (omega arith) (omega arith)) t (k .txn) refl refl refl refl in
+      added-fine n some s b (learns (adds b t (createOf t o)) t (eqb o)) (createOf t o) _ j f h (created-within (s .work) n some within t o (k .txn) (k .object .low) (k .object .top))
+      (occupy-sound n (s .received) (h .sized .received-len) (h .ranged .received-sound) o (k .object .low) (k .object .top))
+      (firm-idle n b (learns (adds b t (createOf t o)) t (eqb o)) (line (createOf t o) (b .running t)) refl refl (i .book .stable)
+      (adds-committed b (i .book) t (runs t (k .txn) (k .active)) (createOf t o) refl refl) (f .firm)) (omega arith)
+
+  pub set-fine : (t o g v : ℕ) → SetFacts s n t o g v → (r : Record) → r ≡ setOf t o g (wordOf (s .received) o g) v → OpenInv n (wordSet s n t o g v) (adds b t r) → Fine n (wordSet s n t o g v) (adds b t r)
+  unfolding wordSet effect isRefAt
+  set-fine t o g v k r e j =
+      let room = beyond 2 (k .room) in
+      let q = setOf t o g (wordOf (s .received) o g) v in
+      let hold = held-change (s .log) (receivedCount s) q (long 2 (omega arith) (omega arith)) t (k .txn) refl refl refl refl in
+      let there : occupied (s .received) o ≡ true = sym (view-occ (s .received) o (k .object .low)) ∙ ap (λ (x : Obj). x .occ) (sym (full-shown n some s b i o))
+      ∙ known-there (machine n s b) (i .collector) t o (kn-is s n (machine n s b) (machine-shows n s b) t o (k .txn) ∙ k .known) in
+      added-fine n some s b (adds b t r) q _ j f h (set-tables-within (s .received) (s .work) n t o g v some within (h .ranged .received-sound) (k .txn) (k .object .low) (k .object .top) (k .field))
+      (written-sound n (s .received) (h .sized .received-len) (h .ranged .received-sound) o (k .object .low) (k .object .top) g v (k .field) there
+      (λ y. elim (k .may y) [ inl z ↦ omega arith | inr z ↦ known-facts (s .work) n t v z .object .top ]))
+      (firm-idle n b (adds b t r) (line r (b .running t)) refl refl (i .book .stable)
+      (adds-committed b (i .book) t (runs t (k .txn) (k .active)) r (rw e refl) (rw e refl)) (f .firm)) (omega arith)
+
+  -- an open transaction's share of the reserve
+  shares : (t : ℕ) → bit (openIn (s .log) (receivedCount s)) t ≡ true → share (s .log) (receivedCount s) t ≡ 1 + length (changesLeft [] (s .log) (receivedCount s) t)
+  shares t o = rw o refl
+
+  -- pages that show the full objects on t's pages and the committed ones elsewhere, or the other way round
+  mixed-sound : (a : List ℕ) → Small n a → ((x : ℕ) → (view a x ≡ view (s .received) x) ⊎ (view a x ≡ view (committedPages n b) x)) → areaSound a n ≡ true
+  mixed-sound a small e = either-sound n some (s .received) (committedPages n b) a (h .ranged .received-sound) committed-sound small e
+
+  shown-full : (x : ℕ) → seenFull b x .object ≡ view (s .received) x
+  shown-full x = full-shown n some s b i x
+
+  shown-committed : (x : ℕ) → seenCommitted b x .object ≡ view (committedPages n b) x
+  shown-committed x = sym (committed-view n some b (i .sound) x)
+
+  -- commit
+  pub committed-fine : (t : ℕ) → CommitFacts s n t → OpenInv n (committed s n t) (committedBy b t) → Fine n (committed s n t) (committedBy b t)
+  unfolding committed effect committedLines committedOf
+  committed-fine t k j =
+      let run = runs t (k .txn) (k .active) in
+      let o = opens t (k .txn) (k .active) in
+      let l = long 1 (omega arith) (k .room) in
+      let g = s .log in let c = receivedCount s in
+      let z = ended-share g c (commitOf t) l t refl refl refl in
+      let y = shares t o in
+      let hold = held-but t (share g c t) 0 g c (recorded g c (commitOf t)) (c + 1) (k .txn) (others-more g c (commitOf t) l t refl) (omega arith) in
+      let room = f .room (h .finished) in
+      added-fine n some s b (committedBy b t) (commitOf t) _ j f h (ended-within (s .work) n some within t) (h .ranged .received-sound)
+      (firm-more n b (committedBy b t) (line (commitOf t) (b .running t)) refl refl (i .book .stable)
+      (mixed-sound (committedPages n (committedBy b t)) (small-after n some (countsCommitted (committedBy b t)) (committedBy b t .lines) (j .sound)) (λ x. either x run)) (f .firm)) (omega arith)
+    where
+      either : (x : ℕ) → Runs b t → (view (committedPages n (committedBy b t)) x ≡ view (s .received) x) ⊎ (view (committedPages n (committedBy b t)) x ≡ view (committedPages n b) x)
+      either x run =
+          let e = committed-view n some (committedBy b t) (j .sound) x ∙ ap (λ (v : Seen). v .object) (commit-committed b (i .book) (locksOf (s .work) n .wr) (i .writers) t run x) in
+          by-bool (locksOf (s .work) n .wr t (pageOf x))
+          (λ d. inl (rw d at e ∙ shown-full x))
+          (λ d. inr (rw d at e ∙ shown-committed x))
+
+  -- copies of t's pages
+  restored-sound : (t : ℕ) (received : List ℕ) → length received ≡ 129 * n → areaSound received n ≡ true → (k : ℕ) → k ≤ n → areaSound (restored (s .work) n t received (s .copies) k) n ≡ true
+  unfolding restored
+  restored-sound t received len sound zero l = h .ranged .copies-sound
+  restored-sound t received len sound (suc p) l = by-bool (canWrite (s .work) n t p)
+      (λ e. rw e (copied-sound n received (restored (s .work) n t received (s .copies) p) p len (length-restored (s .work) n t received (s .copies) len (h .sized .copies-len) p (omega arith)) (omega arith)
+      sound (restored-sound t received len sound p (omega arith))))
+      (λ e. rw e (restored-sound t received len sound p (omega arith)))
+
+  -- the received pages after an abort
+  abort-received : (t : ℕ) → Runs b t → (s′ : Areas) → OpenInv n s′ (abortedBy b t) → areaSound (s′ .received) n ≡ true
+  unfolding fullLines
+  abort-received t run s′ j = rw (j .full) (mixed-sound (fullPages n (abortedBy b t)) (small-after n some (countsFull (abortedBy b t)) (abortedBy b t .lines) (j .sound)) either)
+    where
+      either : (x : ℕ) → (view (fullPages n (abortedBy b t)) x ≡ view (s .received) x) ⊎ (view (fullPages n (abortedBy b t)) x ≡ view (committedPages n b) x)
+      either x =
+          let e = full-view n some (abortedBy b t) (j .sound) x ∙ ap (λ (v : Seen). v .object) (abort-full b (i .book) (locksOf (s .work) n .wr) (i .writers) t run x) in
+          by-bool (locksOf (s .work) n .wr t (pageOf x))
+          (λ d. inr (rw d at e ∙ shown-committed x))
+          (λ d. inl (rw d at e ∙ shown-full x))
+
+  -- abort
+  pub aborted-fine : (t : ℕ) → AbortFacts s t → OpenInv n (aborted s n t) (abortedBy b t) → Fine n (aborted s n t) (abortedBy b t)
+  unfolding aborted
+  aborted-fine t k j =
+      let run = runs t (k .txn) (k .active) in
+      let o = opens t (k .txn) (k .active) in
+      let g = s .log in let c = receivedCount s in
+      let cs = changesOf s t in
+      let ec : cs ≡ changesLeft [] g c t = changes-left g t (s .work) c o ∙ sym (changes-left g t [] c o) in
+      let u : Undoable n g t cs = rw (changes-left g t (s .work) c o) (changes-undoable n g t c (log-sound n g c (i .log .order) .0)) in
+      let len = h .sized .log-len in
+      let m = rolled-more n g t cs s u (let e = h .sized .counts-len in omega arith) (let r = k .room in omega arith) in
+      let a = rolledBack g cs s in
+      let long-a : 6 * receivedCount a + 6 ≤ length (a .log) = let r = k .room in let p = m .log in let q = m .count in omega arith in
+      let m′ = one-more t a (abortedOf t) refl (let e = h .sized .counts-len in let p = m .counts in omega arith) long-a in
+      let z : share (appended a (abortedOf t) .log) (receivedCount (appended a (abortedOf t))) t ≡ 0 = last-share t a long-a (m′ .count) in
+      let y = shares t o in
+      let hold = held-but t (share g c t) 0 g c (appended a (abortedOf t) .log) (receivedCount (appended a (abortedOf t))) (k .txn)
+      (record { shares = λ v d. m′ .others .shares v d ∙ m .others .shares v d }) (omega arith) in
+      let room = f .room (h .finished) in
+      let received-len : length (appended a (abortedOf t) .received) ≡ 129 * n = ap length (j .full) ∙ full-length n some (abortedBy b t) (j .sound) in
+      let sound : areaSound (appended a (abortedOf t) .received) n ≡ true = abort-received t run (aborted s n t) j in
+      let log-len : length (appended a (abortedOf t) .log) ≡ length (s .log) = m′ .log ∙ m .log in
+      let e-len : length cs ≡ length (changesLeft [] g c t) = ap length ec in
+      let n1 = m′ .count in let n2 = m .count in
+      open-fine n some (aborted s n t) (abortedBy b t) j
+      (resized n s (aborted s n t) (h .sized) (ap length (appended-stored a (abortedOf t) ∙ rolled-rest g cs s .0))
+      (length-restored (s .work) n t (appended a (abortedOf t) .received) (s .copies) received-len (h .sized .copies-len) n (omega arith) ∙ sym (h .sized .copies-len))
+      (received-len ∙ sym (h .sized .received-len)) log-len (m′ .counts ∙ m .counts) (ended-within (s .work) n some within t .size))
+      (rw (appended-stored a (abortedOf t) ∙ rolled-rest g cs s .0) (f .stored))
+      (ended-within (s .work) n some within t) sound
+      (restored-sound t (appended a (abortedOf t) .received) received-len sound n (omega arith))
+      (firm-many n b (abortedBy b t) (suc (left (b .running t) (b .lines))) (abort-length b (i .book) t run) refl (i .book .stable)
+      (abort-part (b .running t) t (b .lines) (none run)) (abort-before (b .running t) t (b .lines) (none run)) (f .firm))
+      (rw log-len (omega arith))
+    where
+      none : Runs b t → hasCommit (b .running t) (b .lines) ≡ false
+      none run = unended (b .running t) (b .lines) (i .book .unended t run)
+
+  -- flush and store page
+  pub flushed-fine : (t p : ℕ) → t < 16 → p < n → OpenInv n (flushed s n t p) b → Fine n (flushed s n t p) b
+  unfolding flushed
+  flushed-fine t p l m j =
+      let v = lose-within (s .work) n (unflushedAt n p) t within (omega arith) (omega arith) in
+      open-fine n some (flushed s n t p) b j
+      (resized n s (flushed s n t p) (h .sized) refl (length-copied n (s .received) (s .copies) p (h .sized .received-len) (h .sized .copies-len) m ∙ sym (h .sized .copies-len)) refl refl refl (v .size))
+      (f .stored) v (h .ranged .received-sound)
+      (copied-sound n (s .received) (s .copies) p (h .sized .received-len) (h .sized .copies-len) m (h .ranged .received-sound) (h .ranged .copies-sound))
+      (f .firm) (f .room (h .finished))
+
+  pub stored-fine : (p : ℕ) → p < n → OpenInv n (withStored s (copiedPage (s .copies) (s .stored) p)) b → Fine n (withStored s (copiedPage (s .copies) (s .stored) p)) b
+  stored-fine p m j =
+      open-fine n some (withStored s (copiedPage (s .copies) (s .stored) p)) b j
+      (resized n s (withStored s (copiedPage (s .copies) (s .stored) p)) (h .sized)
+      (length-copied n (s .copies) (s .stored) p (h .sized .copies-len) (h .sized .stored-len) m ∙ sym (h .sized .stored-len)) refl refl refl refl (h .sized .work-len))
+      (copied-sound n (s .copies) (s .stored) p (h .sized .copies-len) (h .sized .stored-len) m (h .ranged .copies-sound) (f .stored)) within (h .ranged .received-sound) (h .ranged .copies-sound)
+      (f .firm) (f .room (h .finished))
+
+  -- counts alone
+  counted-fine : (b′ : Book) (k : List ℕ) → length k ≡ length (s .counts) → OpenInv n (withCounts s k) b′ → Firm n b′
+      → receivedCount (withCounts s k) + held (s .log) (receivedCount (withCounts s k)) ≤ records s → Fine n (withCounts s k) b′
+  counted-fine b′ k e j firm room =
+      open-fine n some (withCounts s k) b′ j (resized n s (withCounts s k) (h .sized) refl refl refl refl e (h .sized .work-len)) (f .stored) within
+      (h .ranged .received-sound) (h .ranged .copies-sound) firm room
+
+  pub forced-fine : (b′ : Book) → b′ .lines ≡ b .lines → b′ .stable ≡ b .stable + 1 → OpenInv n (withCounts s (set (s .counts) 1 (stableCount s + 1))) b′
+      → Fine n (withCounts s (set (s .counts) 1 (stableCount s + 1))) b′
+  forced-fine b′ e d j = counted-fine b′ (set (s .counts) 1 (stableCount s + 1)) (length-set (s .counts) 1 (stableCount s + 1)) j
+      (λ k l. rw e (f .firm k (let z : length (b′ .lines) ≡ length (b .lines) = ap length e in omega arith)))
+      (rw (getD-set-other (s .counts) 1 0 (stableCount s + 1) 0 (λ z. omega arith)) (f .room (h .finished)))
+
+  pub emptied-fine : OpenInv n (emptied s) b → Fine n (emptied s) b
+  emptied-fine j = counted-fine b (set (set (s .counts) 0 0) 1 0) (length-set (set (s .counts) 0 0) 1 0 ∙ length-set (s .counts) 0 0) j (f .firm)
+      (let z : receivedCount (emptied s) ≡ 0 = getD-set-other (set (s .counts) 0 0) 1 0 0 0 (λ y. omega arith) ∙ getD-set-same (s .counts) 0 0 0 (let e = h .sized .counts-len in omega arith) in
+      let y = held-none (s .log) (receivedCount (emptied s)) z in omega arith)
+
+  -- a sweep
+  pub swept-fine : (p m : ℕ) (w : List ℕ) → p < n → Room s 1 → Within w n → OpenInv n (withWork (sweptPage s p m) w) (sweptBy b p m) → Fine n (withWork (sweptPage s p m) w) (sweptBy b p m)
+  unfolding sweptPage appended effect
+  swept-fine p m w l room v j =
+      let s′ = withWork (sweptPage s p m) w in
+      let room′ = beyond 1 room in
+      let c = receivedCount s in
+      let lg = long 1 (omega arith) (omega arith) in
+      let count : receivedCount s′ ≡ c + 1 = getD-set-same (s .counts) 0 (c + 1) 0 (let e = h .sized .counts-len in omega arith) in
+      let g : length (s′ .log) ≡ length (s .log) = recorded-length (s .log) c (sweepOf p m) in
+      let ok : recordSound n (sweepOf p m) ≡ true = rw (recorded-same (s .log) c (sweepOf p m) lg) at
+      (records-sound-at n (s′ .log) (receivedCount s′) c (log-sound-records n (s′ .log) (receivedCount s′) (j .log .order)) (omega arith)) in
+      let spared = sound-record n (sweepOf p m) ok .spared refl in
+      let root-kept : p ≡ 0 → bit m 0 ≡ false = λ z. rw z at spared in
+      let hold = held-sweep (s .log) c (sweepOf p m) lg refl in
+      open-fine n some s′ (sweptBy b p m) j
+      (resized n s s′ (h .sized) refl (length-released-in (s .copies) p m 16) (length-released-in (s .received) p m 16) g (length-set (s .counts) 0 (c + 1)) (v .size))
+      (f .stored) v
+      (released-sound n (s .received) (h .sized .received-len) (h .ranged .received-sound) p m l root-kept)
+      (released-sound n (s .copies) (h .sized .copies-len) (h .ranged .copies-sound) p m l root-kept)
+      (firm-more n b (sweptBy b p m) (line (sweepOf p m) 0) refl refl (i .book .stable)
+      (rw (swept-lines n (b .lines) p m) (released-sound n (pagesAfter n (committedOf (b .lines))) (state-length n some (b .lines) (i .sound)) (f .firm 0 (omega arith)) p m l root-kept)) (f .firm))
+      (rw (count, g) (omega arith))

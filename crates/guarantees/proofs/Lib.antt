@@ -1,0 +1,9 @@
+-- The proofs of the statements.
+pub mod Stable
+pub mod Tables
+pub mod Reserve
+pub mod Sound
+pub mod Fine
+pub mod Keeps
+pub mod Always
+pub mod Refusals

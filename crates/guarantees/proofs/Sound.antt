@@ -1,0 +1,97 @@
+-- Sound page areas: one that shows each object as one of two sound areas does, and the committed states of a book's lines. n is the number
+-- of pages. Assumes nothing.
+use Prim.Native.Nat.{ℕ, zero, suc, _+_, _*_, _-_, _≤_, _<_}
+use native.Mathlib.Omega.{arith}
+use native.Mathlib.Decide.{decLe}
+use mathlib.Core.Path.{_≡_, refl, sym, ap, _∙_}
+use mathlib.Core.Bool.{Bool, true, false}
+use mathlib.Core.List.{List, [], _∷_}
+use mathlib.Core.Logic.{_⊎_, inl, inr}
+use lib.ListN.{length, drop}
+use lib.Dec.{eqb}
+use Rattle.words.specs.Tests.{by-bool}
+use Rattle.pages.specs.Geometry.{pageOf, slotOf, objectAt, root, isRefAt}
+use Rattle.pages.specs.Objects.{mapAt, taken, slotWord, occupied, released}
+use Rattle.pages.specs.Soundness.{areaSound}
+use Rattle.page_laws.specs.SoundFacts.{Sound, sound-facts, facts-sound, ref-same, released-sound}
+use Rattle.records.specs.Records.{sweepOf}
+use Rattle.records.specs.Effects.{effect}
+use Rattle.book.specs.Lines.{Line, line, filtered, hasCommit, pagesAfter}
+use Rattle.book.specs.Books.{Stage, Book, committedLines, stopped, surviving}
+use Rattle.collector.specs.Objects.{Obj}
+use Rattle.views.specs.View.{view}
+use Rattle.views.proofs.Places.{page-of-at, slot-of-at}
+use Rattle.recovery.proofs.Maps.{Small}
+use Rattle.recovery.proofs.Reversal.{view-occ, view-word}
+use Rattle.book_laws.specs.Seen.{counted, committedOf}
+use Rattle.book_laws.specs.Keeping.{SoundLines}
+use Rattle.book_laws.proofs.Committed.{filtered-same, Alike}
+use Rattle.book_laws.proofs.Pages.{committed-of, state-length}
+use Rattle.book_laws.proofs.Stops.{stableLines, stop-committed}
+
+-- slot k of page p is as in area a
+record SlotOf (c a : List ℕ) (p k : ℕ) : Type 0 where
+  occ : taken c p k ≡ taken a p k
+  word : (f : ℕ) → f < 8 → slotWord c p k f ≡ slotWord a p k f
+
+slot-same : (c a : List ℕ) (p k : ℕ) → k < 16 → view c (objectAt p k) ≡ view a (objectAt p k) → SlotOf c a p k
+slot-same c a p k l e =
+    let x = objectAt p k in
+    let q : pageOf x ≡ p = page-of-at p k l in
+    let r : slotOf x ≡ k = slot-of-at p k l in
+    record {
+      occ = rw (q, r) at (sym (view-occ c x (omega arith)) ∙ ap (λ (o : Obj). o .occ) e ∙ view-occ a x (omega arith));
+      word = λ f h. rw (q, r) at (sym (view-word c x (omega arith) f h) ∙ ap (λ (o : Obj). o .word f) e ∙ view-word a x (omega arith) f h);
+    }
+
+module _ (n : ℕ) (some : 1 ≤ n) (a b c : List ℕ) (sa : areaSound a n ≡ true) (sb : areaSound b n ≡ true) (small : Small n c)
+    (either : (x : ℕ) → (view c x ≡ view a x) ⊎ (view c x ≡ view b x)) where
+  slots : (p k : ℕ) → k < 16 → SlotOf c a p k ⊎ SlotOf c b p k
+  slots p k l = elim (either (objectAt p k)) [ inl e ↦ inl (slot-same c a p k l e) | inr e ↦ inr (slot-same c b p k l e) ]
+
+  -- one area's share of it
+  ref-of : (d : List ℕ) → Sound d n → (p k f : ℕ) → p < n → k < 16 → f < 8 → isRefAt c p k f ≡ true → SlotOf c d p k → slotWord c p k f ≤ 16 * n
+  ref-of d s p k f hp hk hf r o = rw (o .word f hf) (s .ref p k f hp hk hf (ref-same c d p k f r))
+
+  free-of : (d : List ℕ) → Sound d n → (p k f : ℕ) → p < n → k < 16 → f < 8 → taken c p k ≡ false → SlotOf c d p k → slotWord c p k f ≡ 0
+  free-of d s p k f hp hk hf r o = o .word f hf ∙ s .free p k f hp hk hf (sym (o .occ) ∙ r)
+
+  pub either-sound : areaSound c n ≡ true
+  either-sound = let x = sound-facts a n sa in let y = sound-facts b n sb in facts-sound c n (record {
+    map = λ p l. let z = small p l in omega arith;
+    ref = λ p k f hp hk hf r. elim (slots p k hk) [ inl o ↦ ref-of a x p k f hp hk hf r o | inr o ↦ ref-of b y p k f hp hk hf r o ];
+    free = λ p k f hp hk hf r. elim (slots p k hk) [ inl o ↦ free-of a x p k f hp hk hf r o | inr o ↦ free-of b y p k f hp hk hf r o ];
+    rooted = elim (slots 0 0 (omega arith)) [ inl o ↦ o .occ ∙ x .rooted | inr o ↦ o .occ ∙ y .rooted ];
+  })
+
+-- the committed states that a cut may leave are sound
+abbrev pub Firm : ℕ → Book → Type 0
+Firm n b = (j : ℕ) → j ≤ length (b .lines) - b .stable → areaSound (pagesAfter n (committedOf (drop j (b .lines)))) n ≡ true
+
+-- one line more
+pub firm-more : (n : ℕ) (b b′ : Book) (l : Line) → b′ .lines ≡ l ∷ b .lines → b′ .stable ≡ b .stable → b .stable ≤ length (b .lines) → areaSound (pagesAfter n (committedOf (b′ .lines))) n ≡ true
+    → Firm n b → Firm n b′
+firm-more n b b′ l e d h s f zero k = s
+firm-more n b b′ l e d h s f (suc j) k = rw e (f j (let z : length (b′ .lines) ≡ suc (length (b .lines)) = ap length e in omega arith))
+
+-- one that commits nothing
+pub firm-idle : (n : ℕ) (b b′ : Book) (l : Line) → b′ .lines ≡ l ∷ b .lines → b′ .stable ≡ b .stable → b .stable ≤ length (b .lines) → Alike (b′ .lines) (b .lines) → Firm n b → Firm n b′
+firm-idle n b b′ l e d h a f = firm-more n b b′ l e d h (rw (a .lines) (f 0 (omega arith))) f
+
+-- lines that an abort adds
+pub firm-many : (n : ℕ) (b b′ : Book) (k : ℕ) → length (b′ .lines) ≡ k + length (b .lines) → b′ .stable ≡ b .stable → b .stable ≤ length (b .lines)
+    → ((j : ℕ) → j ≤ k → Alike (drop j (b′ .lines)) (b .lines)) → ((j : ℕ) → Alike (drop (k + j) (b′ .lines)) (drop j (b .lines))) → Firm n b → Firm n b′
+firm-many n b b′ k e d h part before f j l = elim (decLe j k) [
+  | yes m ↦ rw (part j m .lines) (f 0 (omega arith))
+  | no m ↦ (let z : k + (j - k) ≡ j = omega arith in rw (← z) (rw (before (j - k) .lines) (f (j - k) (omega arith))))
+]
+
+-- a sweep's line
+pub swept-lines : (n : ℕ) (ls : List Line) (p m : ℕ) → pagesAfter n (committedOf (line (sweepOf p m) 0 ∷ ls)) ≡ released (pagesAfter n (committedOf ls)) p m
+unfolding committedOf filtered hasCommit pagesAfter effect
+swept-lines n ls p m = ap (λ (k : List Line). released (pagesAfter n k) p m) (filtered-same (counted (line (sweepOf p m) 0 ∷ ls)) (counted ls) ls (λ l j. refl))
+
+-- a stop leaves the stable lines' state
+pub firm-stop : (n : ℕ) (g : Stage) (b : Book) → Firm n b → Firm n (stopped g b)
+firm-stop n g b f j l = let z : j ≡ 0 = omega arith in
+    rw z (rw (← (committed-of (stopped g b)), stop-committed g b) (f (length (b .lines) - b .stable) (omega arith)))

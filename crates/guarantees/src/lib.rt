@@ -1,0 +1,1 @@
+// What stands beside demand 3: statements and proofs alone.

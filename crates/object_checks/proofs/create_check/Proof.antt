@@ -1,0 +1,89 @@
+use native.Mathlib.Omega.{arith}
+use mathlib.Core.Path.{_≡_, refl, sym, ap, _∙_}
+use borrow.Author.Tests.{not-true, not-false}
+use Rattle.areas.specs.Answers.{need-holds, need-fails}
+use Rattle.object_checks.specs.Tests.{object-range}
+use mathlib.Core.Bool.{not}
+use Rattle.store_ops.specs.Logs.{room-in}
+use Rattle.calls.specs.Objects.{createCheck}
+use borrow.Author.Needs.{needs}
+use Rattle.object_checks.proofs.create_check.Statement.{statement}
+use Rattle.object_checks.proofs.create_check.Tie as tie
+use Rattle.object_checks.proofs.create_check.Reads as reads
+use Rattle.object_checks.proofs.create_check.Lts as lts
+use Rattle.object_checks.proofs.in_range.Reads as in-range-reads
+use Rattle.page_ops.proofs.change.occupied.Reads as occupied-reads
+use Rattle.store_ops.proofs.room_beyond.Reads as room-beyond-reads
+use Rattle.store_ops.proofs.can_write.Reads as can-write-reads
+use Rattle.store_ops.proofs.has.Reads as has-reads
+
+-- src/lib.rt:75:9
+in-range-requires : tie.Need-in-range-requires
+in-range-requires c κs = search needs
+
+-- src/lib.rt:76:9
+returns : tie.Need-returns
+unfolding createCheck
+returns c = need-fails _ _ _ (sym (c .before .in-range .ensures) ∙ not-true _ (c .if1 .taken))
+
+-- src/lib.rt:78:9
+has-requires : tie.Need-has-requires
+has-requires c κs = let a = c .before .before .before .before .before .before .args in let h = object-range (a .n) (a .t) (a .o) (sym (c .before .in-range .ensures) ∙ not-false _ (c .if1 .left)) in omega arith
+
+-- src/lib.rt:79:9
+returns-2 : tie.Need-returns-2
+unfolding createCheck
+returns-2 c = need-fails _ _ _ (sym (c .before .has .ensures) ∙ not-true _ (c .if2 .taken)) ∙ need-holds _ _ _ (sym (c .before .before .before .in-range .ensures) ∙ not-false _ (c .before .before .if1 .left))
+
+-- src/lib.rt:81:43
+sub-can-write : tie.Need-sub-can-write
+sub-can-write c = let a = c .before .before .before .before .before .before .before .before .args in let h = object-range (a .n) (a .t) (a .o) (sym (c .before .before .before .in-range .ensures) ∙ not-false _ (c .before .before .if1 .left)) in omega arith
+
+-- src/lib.rt:81:9
+can-write-requires : tie.Need-can-write-requires
+can-write-requires c κs = let a = c .before .before .before .before .before .before .before .before .args in let h = object-range (a .n) (a .t) (a .o) (sym (c .before .before .before .in-range .ensures) ∙ not-false _ (c .before .before .if1 .left)) in omega arith
+
+-- src/lib.rt:82:9
+returns-3 : tie.Need-returns-3
+unfolding createCheck
+returns-3 c = need-fails _ _ _ (sym (c .before .can-write .ensures) ∙ not-true _ (c .if3 .taken)) ∙ need-holds _ _ _ (sym (c .before .before .before .has .ensures) ∙ not-false _ (c .before .before .if2 .left)) ∙ need-holds _ _ _ (sym (c .before .before .before .before .before .in-range .ensures) ∙ not-false _ (c .before .before .before .before .if1 .left))
+
+-- src/lib.rt:84:8
+occupied-requires : tie.Need-occupied-requires
+occupied-requires c κs = let a = c .before .before .before .before .before .before .before .before .before .before .args in let h = object-range (a .n) (a .t) (a .o) (sym (c .before .before .before .before .before .in-range .ensures) ∙ not-false _ (c .before .before .before .before .if1 .left)) in omega arith
+
+-- src/lib.rt:85:9
+returns-4 : tie.Need-returns-4
+unfolding createCheck
+returns-4 c = need-fails _ _ _ (ap not (sym (c .before .occupied .ensures) ∙ c .if4 .taken)) ∙ need-holds _ _ _ (sym (c .before .before .before .can-write .ensures) ∙ not-false _ (c .before .before .if3 .left)) ∙ need-holds _ _ _ (sym (c .before .before .before .before .before .has .ensures) ∙ not-false _ (c .before .before .before .before .if2 .left)) ∙ need-holds _ _ _ (sym (c .before .before .before .before .before .before .before .in-range .ensures) ∙ not-false _ (c .before .before .before .before .before .before .if1 .left))
+
+-- src/lib.rt:87:9
+room-beyond-requires : tie.Need-room-beyond-requires
+room-beyond-requires c κs = search needs
+
+-- src/lib.rt:88:9
+returns-5 : tie.Need-returns-5
+unfolding createCheck
+returns-5 c = need-fails _ _ _ (sym (c .before .room-beyond .ensures ∙ room-in _ _ _ _ _ _ _) ∙ not-true _ (c .if5 .taken)) ∙ need-holds _ _ _ (ap not (sym (c .before .before .before .occupied .ensures) ∙ c .before .before .if4 .left)) ∙ need-holds _ _ _ (sym (c .before .before .before .before .before .can-write .ensures) ∙ not-false _ (c .before .before .before .before .if3 .left)) ∙ need-holds _ _ _ (sym (c .before .before .before .before .before .before .before .has .ensures) ∙ not-false _ (c .before .before .before .before .before .before .if2 .left)) ∙ need-holds _ _ _ (sym (c .before .before .before .before .before .before .before .before .before .in-range .ensures) ∙ not-false _ (c .before .before .before .before .before .before .before .before .if1 .left))
+
+-- src/lib.rt:62:1
+returns-6 : tie.Need-returns-6
+unfolding createCheck
+returns-6 c = need-holds _ _ _ (sym (c .before .room-beyond .ensures ∙ room-in _ _ _ _ _ _ _) ∙ not-false _ (c .if5 .left)) ∙ need-holds _ _ _ (ap not (sym (c .before .before .before .occupied .ensures) ∙ c .before .before .if4 .left)) ∙ need-holds _ _ _ (sym (c .before .before .before .before .before .can-write .ensures) ∙ not-false _ (c .before .before .before .before .if3 .left)) ∙ need-holds _ _ _ (sym (c .before .before .before .before .before .before .before .has .ensures) ∙ not-false _ (c .before .before .before .before .before .before .if2 .left)) ∙ need-holds _ _ _ (sym (c .before .before .before .before .before .before .before .before .before .in-range .ensures) ∙ not-false _ (c .before .before .before .before .before .before .before .before .if1 .left))
+
+pub create-check-spec : {M : Type 1} → statement M
+create-check-spec =
+    tie.close
+    (tie.spec
+    in-range-requires
+    returns
+    has-requires
+    returns-2
+    sub-can-write
+    can-write-requires
+    returns-3
+    occupied-requires
+    returns-4
+    room-beyond-requires
+    returns-5
+    returns-6)

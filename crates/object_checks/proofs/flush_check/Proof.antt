@@ -1,0 +1,71 @@
+use native.Mathlib.Omega.{arith}
+use mathlib.Core.Path.{_≡_, refl, sym, ap, _∙_}
+use borrow.Author.Tests.{not-true, not-false}
+use Rattle.areas.specs.Answers.{need-holds, need-fails}
+use Rattle.page_ops.specs.Agreement.{agrees}
+use Rattle.object_checks.specs.Tests.{page-range}
+use Rattle.calls.specs.Objects.{flushCheck}
+use borrow.Author.Needs.{needs}
+use Rattle.object_checks.proofs.flush_check.Statement.{statement}
+use Rattle.object_checks.proofs.flush_check.Tie as tie
+use Rattle.object_checks.proofs.flush_check.Reads as reads
+use Rattle.object_checks.proofs.flush_check.Lts as lts
+use Rattle.object_checks.proofs.page_in_range.Reads as page-in-range-reads
+use Rattle.page_ops.proofs.copy.page_agrees.Reads as page-agrees-reads
+use Rattle.store_ops.proofs.can_write.Reads as can-write-reads
+use Rattle.store_ops.proofs.has.Reads as has-reads
+
+-- src/lib.rt:138:9
+page-in-range-requires : tie.Need-page-in-range-requires
+page-in-range-requires c κs = search needs
+
+-- src/lib.rt:139:9
+returns : tie.Need-returns
+unfolding flushCheck agrees
+returns c = need-fails _ _ _ (sym (c .before .page-in-range .ensures) ∙ not-true _ (c .if1 .taken))
+
+-- src/lib.rt:141:9
+has-requires : tie.Need-has-requires
+has-requires c κs = let a = c .before .before .before .before .before .args in let h = page-range (a .n) (a .t) (a .p) (sym (c .before .page-in-range .ensures) ∙ not-false _ (c .if1 .left)) in omega arith
+
+-- src/lib.rt:142:9
+returns-2 : tie.Need-returns-2
+unfolding flushCheck agrees
+returns-2 c = need-fails _ _ _ (sym (c .before .has .ensures) ∙ not-true _ (c .if2 .taken)) ∙ need-holds _ _ _ (sym (c .before .before .before .page-in-range .ensures) ∙ not-false _ (c .before .before .if1 .left))
+
+-- src/lib.rt:144:9
+can-write-requires : tie.Need-can-write-requires
+can-write-requires c κs = let a = c .before .before .before .before .before .before .before .args in let h = page-range (a .n) (a .t) (a .p) (sym (c .before .before .before .page-in-range .ensures) ∙ not-false _ (c .before .before .if1 .left)) in omega arith
+
+-- src/lib.rt:145:9
+returns-3 : tie.Need-returns-3
+unfolding flushCheck agrees
+returns-3 c = need-fails _ _ _ (sym (c .before .can-write .ensures) ∙ not-true _ (c .if3 .taken)) ∙ need-holds _ _ _ (sym (c .before .before .before .has .ensures) ∙ not-false _ (c .before .before .if2 .left)) ∙ need-holds _ _ _ (sym (c .before .before .before .before .before .page-in-range .ensures) ∙ not-false _ (c .before .before .before .before .if1 .left))
+
+-- src/lib.rt:147:9
+page-agrees-requires : tie.Need-page-agrees-requires
+page-agrees-requires c κs = let a = c .before .before .before .before .before .before .before .before .before .args in let h = page-range (a .n) (a .t) (a .p) (sym (c .before .before .before .before .before .page-in-range .ensures) ∙ not-false _ (c .before .before .before .before .if1 .left)) in omega arith
+
+-- src/lib.rt:148:9
+returns-4 : tie.Need-returns-4
+unfolding flushCheck agrees
+returns-4 c = need-fails _ _ _ (sym (c .before .page-agrees .ensures) ∙ not-true _ (c .if4 .taken)) ∙ need-holds _ _ _ (sym (c .before .before .before .can-write .ensures) ∙ not-false _ (c .before .before .if3 .left)) ∙ need-holds _ _ _ (sym (c .before .before .before .before .before .has .ensures) ∙ not-false _ (c .before .before .before .before .if2 .left)) ∙ need-holds _ _ _ (sym (c .before .before .before .before .before .before .before .page-in-range .ensures) ∙ not-false _ (c .before .before .before .before .before .before .if1 .left))
+
+-- src/lib.rt:127:1
+returns-5 : tie.Need-returns-5
+unfolding flushCheck agrees
+returns-5 c = need-holds _ _ _ (sym (c .before .page-agrees .ensures) ∙ not-false _ (c .if4 .left)) ∙ need-holds _ _ _ (sym (c .before .before .before .can-write .ensures) ∙ not-false _ (c .before .before .if3 .left)) ∙ need-holds _ _ _ (sym (c .before .before .before .before .before .has .ensures) ∙ not-false _ (c .before .before .before .before .if2 .left)) ∙ need-holds _ _ _ (sym (c .before .before .before .before .before .before .before .page-in-range .ensures) ∙ not-false _ (c .before .before .before .before .before .before .if1 .left))
+
+pub flush-check-spec : {M : Type 1} → statement M
+flush-check-spec =
+    tie.close
+    (tie.spec
+    page-in-range-requires
+    returns
+    has-requires
+    returns-2
+    can-write-requires
+    returns-3
+    page-agrees-requires
+    returns-4
+    returns-5)

@@ -1,0 +1,62 @@
+-- The recovered pages, made in place: the turns of the loops. Assumes nothing.
+use Prim.Native.Nat.{ℕ, zero, suc, _+_, _*_, _-_, _/_, _<_, _≤_}
+use mathlib.Core.Path.{_≡_, refl, sym, ap, _∙_}
+use mathlib.Core.Bool.{Bool, true, false}
+use mathlib.Core.List.{List}
+use lib.ListN.{length, getD, set, replicate, length-replicate, getD-replicate}
+use lib.Seq.{ext-getD}
+use native.Mathlib.Omega.{arith}
+use Rattle.words.specs.Tests.{if, by-bool}
+use Rattle.words.specs.Bits.{bit}
+use Rattle.records.specs.declared.Record.{Record}
+use Rattle.records.specs.Records.{recordAt}
+use Rattle.records.specs.Soundness.{recordSound, recordsSound}
+use Rattle.records.specs.Effects.{effect, undone}
+use Rattle.records.specs.Order.{openIn}
+use Rattle.records.specs.Recovery.{redone, undoneIn, recovered}
+use Rattle.record_laws.specs.RecordLaws.{redone-next, records-sound-at}
+use Rattle.record_laws.specs.EffectLaws.{length-redone}
+use Rattle.page_replay.specs.Pages.{FilledTo}
+use Rattle.page_replay.specs.Replay.{leaving, record-sound-of}
+
+-- a list filled to its end
+pub filled-same : (b a : List ℕ) (i : ℕ) → length b ≡ length a → length a ≤ i → FilledTo b (λ k. getD a k 0) i → b ≡ a
+filled-same b a i e u h = ext-getD 0 b a e (λ k l. h k (omega arith))
+
+pub filled-zero : (b : List ℕ) (n i : ℕ) → length b ≡ n → n ≤ i → FilledTo b (λ k. 0) i → b ≡ replicate n 0
+filled-zero b n i e u h = ext-getD 0 b (replicate n 0) (e ∙ sym (length-replicate n 0)) (λ k l. h k (omega arith) ∙ sym (getD-replicate n k 0 0 (omega arith)))
+
+-- a record undone if it is of a transaction of m
+abbrev pub takenBack : ℕ → List ℕ → Record → List ℕ
+takenBack m a r = if (bit m (r .txn)) (undone a r) a
+
+pub redone-turn : (a g : List ℕ) (i : ℕ) (x : List ℕ) (r : Record) → x ≡ redone a g i → r ≡ recordAt g i → effect x r ≡ redone a g (i + 1)
+redone-turn a g i x r e f = ap (λ (y : List ℕ). effect y r) e ∙ ap (effect (redone a g i)) f ∙ redone-next a g i
+
+pub undone-down : (g : List ℕ) (m i : ℕ) (a : List ℕ) {m′ : ℕ} {x : List ℕ} (r : Record) → 0 < i → r ≡ recordAt g (i - 1)
+    → m′ ≡ leaving m r → x ≡ takenBack m a r → undoneIn g m′ (i - 1) x ≡ undoneIn g m i a
+unfolding undoneIn
+undone-down g m zero a r l er em ex = absurd (omega arith)
+undone-down g m (suc j) a r l er em ex = let z : suc j - 1 ≡ j = omega arith in rw (em, ex, er, z)
+
+pub undone-end : (g : List ℕ) (m i : ℕ) (a : List ℕ) → i ≤ 0 → a ≡ undoneIn g m i a
+unfolding undoneIn
+undone-end g m zero a l = refl
+undone-end g m (suc i) a l = absurd (omega arith)
+
+-- a record of the log, for an area as long as the one that the log is sound for
+pub sound-here : (a x g : List ℕ) (c i : ℕ) (r : Record) → length x ≡ length a → r ≡ recordAt g i → recordsSound (length a / 129) g c ≡ true → i < c
+    → recordSound (length x / 129) r ≡ true
+sound-here a x g c i r e f h l = rw e (record-sound-of (length a / 129) g c i r f h l)
+
+-- a log sound for the stored pages a is so for what is made of them
+pub sound-copied : (a g : List ℕ) (c : ℕ) (x : List ℕ) → x ≡ a → recordsSound (length a / 129) g c ≡ true → recordsSound (length x / 129) g c ≡ true
+sound-copied a g c x e h = rw e h
+
+pub sound-redone : (a g : List ℕ) (c : ℕ) (x y : List ℕ) → x ≡ a → y ≡ redone x g c → recordsSound (length a / 129) g c ≡ true → recordsSound (length y / 129) g c ≡ true
+sound-redone a g c x y e f h = rw (f, e, length-redone a g c) h
+
+-- all of it: b holds the stored pages, x them redone, y the undone
+pub rebuilt : (a g : List ℕ) (c m : ℕ) (b x y : List ℕ) → m ≡ openIn g c → b ≡ a → x ≡ redone b g c → y ≡ undoneIn g m c x → y ≡ recovered a g c
+unfolding recovered
+rebuilt a g c m b x y em eb ex ey = rw (ey, ex, eb, em)

@@ -1,0 +1,22 @@
+// What stored pages and stable records give: the log read, the pages that it leaves checked one by one, and both made in place.
+mod check;
+mod making;
+mod reading;
+
+use areas::Refusal;
+pub use check::find_open;
+pub use making::rebuild;
+pub use making::restart;
+use records::Record;
+
+// What the reader finds: a record, or that it is unsound.
+pub enum Read {
+    Sound(Record),
+    Unsound,
+}
+
+// What reading the log says: the transactions still open at its end, or a refusal.
+pub enum Scan {
+    Open(u32),
+    Refuse(Refusal),
+}
