@@ -1,0 +1,32 @@
+-- The answer of a C function. Assumes nothing.
+use Prim.Native.Nat.{ℕ, _+_, _*_, _≤_}
+use native.Mathlib.Omega.{arith}
+use Rattle.areas.specs.declared.Refusal.{Refusal}
+use Rattle.areas.specs.declared.Refusal.the-variants.{Malformed, NotOpen, OutOfRange, WrongState, NotLocked, Held, Unknown, Occupied, Differs, Unflushed, LogFull, Unstable, InUse, Unsound}
+use Rattle.areas.specs.declared.Answer.{Answer}
+use Rattle.areas.specs.declared.Answer.the-variants.{Done, Refused}
+use Rattle.areas.specs.Answers.{numberOf, answerOf, valueOf}
+
+-- the answer's number, and its value, in one word of 64 bits
+abbrev pub coded : Answer → ℕ
+coded a = 4294967296 * answerOf a + valueOf a
+
+number-small : (x : Refusal) → numberOf x ≤ 14
+number-small Malformed = omega arith
+number-small NotOpen = omega arith
+number-small OutOfRange = omega arith
+number-small WrongState = omega arith
+number-small NotLocked = omega arith
+number-small Held = omega arith
+number-small Unknown = omega arith
+number-small Occupied = omega arith
+number-small Differs = omega arith
+number-small Unflushed = omega arith
+number-small LogFull = omega arith
+number-small Unstable = omega arith
+number-small InUse = omega arith
+number-small Unsound = omega arith
+
+pub answer-small : (a : Answer) → answerOf a ≤ 14
+answer-small (Done v) = omega arith
+answer-small (Refused x) = number-small x

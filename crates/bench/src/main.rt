@@ -1,0 +1,136 @@
+// The bench program: a store of 4 pages and 64 log records in memory; lines in, answers out.
+use areas::Answer;
+use bench_lines::Command;
+use bench_lines::Ended;
+use bench_lines::Line;
+
+// Where the reading stands: the line so far, and the number of the next one.
+struct Place {
+    line: Line,
+    number: u64,
+}
+
+// Writes the output line of an answer.
+fn tell(number: u64, a: Answer) {
+    let mut buf = [0u8; 64];
+    let value = areas::value_of(a);
+    let answer = areas::answer_of(a);
+    let n = bench_lines::put_line(&mut buf, number, answer, value);
+    io::write_all(1, &buf[..n]);
+}
+
+// Does the call of a line that ended, and answers the number of the next line.
+fn take(
+    stored: &mut [u32],
+    copies: &mut [u32],
+    received: &mut [u32],
+    log: &mut [u32],
+    counts: &mut [u32],
+    work: &mut [u32],
+    number: u64,
+    ended: Ended,
+) -> u64 {
+    match ended {
+        Ended::No => number,
+        Ended::Yes(c) => {
+            let a = bench_calls::serve(stored, copies, received, log, counts, work, c);
+            tell(number, a);
+            std::num::wrapping_add_u64(number, 1)
+        }
+    }
+}
+
+// Takes the bytes of a chunk one by one.
+fn take_bytes(
+    stored: &mut [u32],
+    copies: &mut [u32],
+    received: &mut [u32],
+    log: &mut [u32],
+    counts: &mut [u32],
+    work: &mut [u32],
+    place: Place,
+    bytes: &[u8],
+) -> Place {
+    let mut line = place.line;
+    let mut number = place.number;
+    for i in 0..bytes.len() {
+        let fed = bench_lines::feed(line, bytes[i]);
+        line = fed.line;
+        let ended = fed.ended;
+        number = take(stored, copies, received, log, counts, work, number, ended);
+    }
+    Place { line, number }
+}
+
+// Takes all of standard input.
+fn take_input(
+    stored: &mut [u32],
+    copies: &mut [u32],
+    received: &mut [u32],
+    log: &mut [u32],
+    counts: &mut [u32],
+    work: &mut [u32],
+) {
+    let mut place = Place {
+        line: bench_lines::no_line(),
+        number: 1,
+    };
+    // A proved loop ends: it counts its turns down, from a number that no run uses up.
+    let mut turns = u64::MAX;
+    let mut buf = [0u8; 4096];
+    while turns > 0 {
+        let got = libc::read(0, &mut buf);
+        if got <= 0 {
+            turns = 0;
+        } else {
+            let n = io::count(got, &buf);
+            place = take_bytes(
+                stored,
+                copies,
+                received,
+                log,
+                counts,
+                work,
+                place,
+                &buf[..n],
+            );
+            turns -= 1;
+        }
+    }
+    let last = bench_lines::finish(place.line);
+    take(
+        stored,
+        copies,
+        received,
+        log,
+        counts,
+        work,
+        place.number,
+        last,
+    );
+}
+
+fn main() {
+    let mut stored = [0u32; 516];
+    let mut copies = [0u32; 516];
+    let mut received = [0u32; 516];
+    let mut log = [0u32; 384];
+    let mut counts = [0u32; 2];
+    let mut work = [0u32; 274];
+    formatting::format(
+        &mut stored,
+        &mut copies,
+        &mut received,
+        &mut log,
+        &mut counts,
+        &mut work,
+    );
+    take_input(
+        &mut stored,
+        &mut copies,
+        &mut received,
+        &mut log,
+        &mut counts,
+        &mut work,
+    );
+}

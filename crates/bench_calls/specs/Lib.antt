@@ -1,0 +1,2 @@
+-- Laws of the page that a flush of the bench program sends.
+pub mod Sent
