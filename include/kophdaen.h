@@ -1,0 +1,138 @@
+/* The depot record server and its mark-sweep collector: the proved library's C functions.
+ *
+ * Every call is lent the six areas of docs/LAYOUT.md, each as a pointer and its length in words:
+ * stored pages, page copies, received pages (129 * P words each), the log (6 * L), the two log
+ * counts (2) and the working tables (6 + 67 * P), with P from 1 to 256 and L from 1 to 4096. No
+ * area may overlap another. An area that a call only reads is const. The library keeps no pointer
+ * and allocates nothing.
+ *
+ * A call answers  answer number * 2^32 + value : number 0 where accepted, else the refusal's number
+ * in document 01's table, with the value 0 and every buffer as it was. Any words may be lent.
+ */
+#ifndef KOPHDAEN_H
+#define KOPHDAEN_H
+
+#include <stddef.h>
+#include <stdint.h>
+
+#ifdef __cplusplus
+extern "C" {
+#endif
+
+#define KOPHDAEN_ANSWER(code) ((uint32_t)((uint64_t)(code) >> 32))
+#define KOPHDAEN_VALUE(code) ((uint32_t)(code))
+#define KOPHDAEN_PAGE_WORDS 129u
+#define KOPHDAEN_RECORD_WORDS 6u
+#define KOPHDAEN_COUNTS_WORDS 2u
+#define KOPHDAEN_WORK_WORDS(pages) (6u + 67u * (pages))
+
+/* Makes the root and no other object. Checks lengths only. Value 0. */
+uint64_t kophdaen_format(
+    uint32_t *stored, size_t stored_words, uint32_t *copies, size_t copies_words,
+    uint32_t *received, size_t received_words, uint32_t *log, size_t log_words,
+    uint32_t *counts, size_t counts_words, uint32_t *work, size_t work_words);
+
+/* Transactions t are 0 to 15. Value: the received count. */
+uint64_t kophdaen_begin(
+    const uint32_t *stored, size_t stored_words, const uint32_t *copies, size_t copies_words,
+    const uint32_t *received, size_t received_words, uint32_t *log, size_t log_words,
+    uint32_t *counts, size_t counts_words, uint32_t *work, size_t work_words, uint32_t t);
+
+uint64_t kophdaen_commit(
+    const uint32_t *stored, size_t stored_words, const uint32_t *copies, size_t copies_words,
+    const uint32_t *received, size_t received_words, uint32_t *log, size_t log_words,
+    uint32_t *counts, size_t counts_words, uint32_t *work, size_t work_words, uint32_t t);
+
+uint64_t kophdaen_abort(
+    const uint32_t *stored, size_t stored_words, uint32_t *copies, size_t copies_words,
+    uint32_t *received, size_t received_words, uint32_t *log, size_t log_words,
+    uint32_t *counts, size_t counts_words, uint32_t *work, size_t work_words, uint32_t t);
+
+/* Locks never wait. Value 0. */
+uint64_t kophdaen_lock_read(
+    const uint32_t *stored, size_t stored_words, const uint32_t *copies, size_t copies_words,
+    const uint32_t *received, size_t received_words, const uint32_t *log, size_t log_words,
+    const uint32_t *counts, size_t counts_words, uint32_t *work, size_t work_words,
+    uint32_t t, uint32_t page);
+
+uint64_t kophdaen_lock_write(
+    const uint32_t *stored, size_t stored_words, const uint32_t *copies, size_t copies_words,
+    const uint32_t *received, size_t received_words, const uint32_t *log, size_t log_words,
+    const uint32_t *counts, size_t counts_words, uint32_t *work, size_t work_words,
+    uint32_t t, uint32_t page);
+
+/* Puts the object's eight received words into buffer, of eight words. Value: word 0. */
+uint64_t kophdaen_read(
+    const uint32_t *stored, size_t stored_words, const uint32_t *copies, size_t copies_words,
+    const uint32_t *received, size_t received_words, const uint32_t *log, size_t log_words,
+    const uint32_t *counts, size_t counts_words, uint32_t *work, size_t work_words,
+    uint32_t *buffer, size_t buffer_words, uint32_t t, uint32_t object);
+
+/* Value: the received count. */
+uint64_t kophdaen_create(
+    const uint32_t *stored, size_t stored_words, const uint32_t *copies, size_t copies_words,
+    uint32_t *received, size_t received_words, uint32_t *log, size_t log_words,
+    uint32_t *counts, size_t counts_words, uint32_t *work, size_t work_words,
+    uint32_t t, uint32_t object);
+
+uint64_t kophdaen_set_word(
+    const uint32_t *stored, size_t stored_words, const uint32_t *copies, size_t copies_words,
+    uint32_t *received, size_t received_words, uint32_t *log, size_t log_words,
+    uint32_t *counts, size_t counts_words, uint32_t *work, size_t work_words,
+    uint32_t t, uint32_t object, uint32_t field, uint32_t word);
+
+/* image, of 129 words, must equal the received page. Value 0. */
+uint64_t kophdaen_flush(
+    const uint32_t *stored, size_t stored_words, uint32_t *copies, size_t copies_words,
+    const uint32_t *received, size_t received_words, const uint32_t *log, size_t log_words,
+    const uint32_t *counts, size_t counts_words, uint32_t *work, size_t work_words,
+    const uint32_t *image, size_t image_words, uint32_t t, uint32_t page);
+
+/* Makes one more record stable. Value: the stable count. */
+uint64_t kophdaen_force(
+    const uint32_t *stored, size_t stored_words, const uint32_t *copies, size_t copies_words,
+    const uint32_t *received, size_t received_words, const uint32_t *log, size_t log_words,
+    uint32_t *counts, size_t counts_words, const uint32_t *work, size_t work_words);
+
+/* Writes one copy to the stored pages. Value 0. */
+uint64_t kophdaen_store_page(
+    uint32_t *stored, size_t stored_words, const uint32_t *copies, size_t copies_words,
+    const uint32_t *received, size_t received_words, const uint32_t *log, size_t log_words,
+    const uint32_t *counts, size_t counts_words, const uint32_t *work, size_t work_words,
+    uint32_t page);
+
+/* Sets both counts to 0. Value 0. */
+uint64_t kophdaen_empty_log(
+    const uint32_t *stored, size_t stored_words, const uint32_t *copies, size_t copies_words,
+    const uint32_t *received, size_t received_words, const uint32_t *log, size_t log_words,
+    uint32_t *counts, size_t counts_words, const uint32_t *work, size_t work_words);
+
+/* Value 0. */
+uint64_t kophdaen_start_pass(
+    const uint32_t *stored, size_t stored_words, const uint32_t *copies, size_t copies_words,
+    const uint32_t *received, size_t received_words, const uint32_t *log, size_t log_words,
+    const uint32_t *counts, size_t counts_words, uint32_t *work, size_t work_words);
+
+/* One object or one page. Value: the object scanned or the slots freed; 0 for the turn. */
+uint64_t kophdaen_pass_step(
+    const uint32_t *stored, size_t stored_words, uint32_t *copies, size_t copies_words,
+    uint32_t *received, size_t received_words, uint32_t *log, size_t log_words,
+    uint32_t *counts, size_t counts_words, uint32_t *work, size_t work_words);
+
+/* Replays the stable log over the stored pages. Checks lengths only for refusal 1. Value 0. */
+uint64_t kophdaen_reopen(
+    const uint32_t *stored, size_t stored_words, uint32_t *copies, size_t copies_words,
+    uint32_t *received, size_t received_words, const uint32_t *log, size_t log_words,
+    uint32_t *counts, size_t counts_words, uint32_t *work, size_t work_words);
+
+/* Stores one page, lastly empties the log. Value: the page stored, lastly P. */
+uint64_t kophdaen_reopen_step(
+    uint32_t *stored, size_t stored_words, const uint32_t *copies, size_t copies_words,
+    const uint32_t *received, size_t received_words, const uint32_t *log, size_t log_words,
+    uint32_t *counts, size_t counts_words, uint32_t *work, size_t work_words);
+
+#ifdef __cplusplus
+}
+#endif
+
+#endif

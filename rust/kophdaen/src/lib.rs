@@ -1,0 +1,35 @@
+//! A safe wrapper over the proved page server and collector.
+//!
+//! A [`Store`] owns the six lent areas (docs/LAYOUT.md) and offers every call of document 01 on
+//! them. The library's promises settle the answer and every word for all inputs, so the areas may
+//! be looked at and written at will: no words in them are unsafe to lend.
+
+/// What a call answered: 0 or a refusal's number, and the value (0 where refused).
+#[derive(Clone, Copy, PartialEq, Eq, Debug)]
+pub struct Answer {
+    pub number: u32,
+    pub value: u32,
+}
+
+impl Answer {
+    /// From the C functions' code, answer number x 2^32 + value.
+    pub fn from_code(code: u64) -> Answer {
+        Answer { number: (code >> 32) as u32, value: code as u32 }
+    }
+
+    pub fn code(self) -> u64 {
+        u64::from(self.number) << 32 | u64::from(self.value)
+    }
+
+    pub fn accepted(self) -> bool {
+        self.number == 0
+    }
+}
+
+pub const PAGE_WORDS: usize = 129;
+pub const RECORD_WORDS: usize = 6;
+
+#[cfg(feature = "linked")]
+mod store;
+#[cfg(feature = "linked")]
+pub use store::Store;

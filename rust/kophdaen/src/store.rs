@@ -1,0 +1,178 @@
+use crate::{Answer, PAGE_WORDS, RECORD_WORDS};
+
+/// Declares the C functions: the six areas as pointer and length in words, then the call's own
+/// arguments. include/kophdaen.h says which areas a call only reads.
+macro_rules! declare {
+    ($( $name:ident( $($own:ident: $kind:ty),* ); )*) => {
+        extern "C" {
+            $( fn $name(
+                stored: *mut u32, stored_words: usize,
+                copies: *mut u32, copies_words: usize,
+                received: *mut u32, received_words: usize,
+                log: *mut u32, log_words: usize,
+                counts: *mut u32, counts_words: usize,
+                work: *mut u32, work_words: usize
+                $(, $own: $kind)*
+            ) -> u64; )*
+        }
+    };
+}
+
+declare! {
+    kophdaen_format();
+    kophdaen_begin(t: u32);
+    kophdaen_commit(t: u32);
+    kophdaen_abort(t: u32);
+    kophdaen_lock_read(t: u32, page: u32);
+    kophdaen_lock_write(t: u32, page: u32);
+    kophdaen_read(buffer: *mut u32, buffer_words: usize, t: u32, object: u32);
+    kophdaen_create(t: u32, object: u32);
+    kophdaen_set_word(t: u32, object: u32, field: u32, word: u32);
+    kophdaen_flush(image: *const u32, image_words: usize, t: u32, page: u32);
+    kophdaen_force();
+    kophdaen_store_page(page: u32);
+    kophdaen_empty_log();
+    kophdaen_start_pass();
+    kophdaen_pass_step();
+}
+
+#[cfg(feature = "reopening")]
+declare! {
+    kophdaen_reopen();
+    kophdaen_reopen_step();
+}
+
+/// Lends the six areas to a C function.
+macro_rules! lend {
+    ($store:ident, $name:ident $(, $own:expr)*) => {
+        // SAFETY: each area is a Vec of its own, borrowed through &mut self, lent as pointer and
+        // length; the library keeps no pointer and reads and writes within those lengths.
+        Answer::from_code(unsafe {
+            $name(
+                $store.stored.as_mut_ptr(), $store.stored.len(),
+                $store.copies.as_mut_ptr(), $store.copies.len(),
+                $store.received.as_mut_ptr(), $store.received.len(),
+                $store.log.as_mut_ptr(), $store.log.len(),
+                $store.counts.as_mut_ptr(), $store.counts.len(),
+                $store.work.as_mut_ptr(), $store.work.len()
+                $(, $own)*
+            )
+        })
+    };
+}
+
+/// A page server's lent areas, and its calls on them.
+#[derive(Clone)]
+pub struct Store {
+    pub stored: Vec<u32>,
+    pub copies: Vec<u32>,
+    pub received: Vec<u32>,
+    pub log: Vec<u32>,
+    pub counts: Vec<u32>,
+    pub work: Vec<u32>,
+}
+
+impl Store {
+    /// Areas for `pages` pages (1 to 256) and `records` log records (1 to 4096), all words 0. The
+    /// store takes calls once formatted; other sizes are refused with 1.
+    pub fn new(pages: usize, records: usize) -> Store {
+        Store {
+            stored: vec![0; PAGE_WORDS * pages],
+            copies: vec![0; PAGE_WORDS * pages],
+            received: vec![0; PAGE_WORDS * pages],
+            log: vec![0; RECORD_WORDS * records],
+            counts: vec![0; 2],
+            work: vec![0; 6 + 67 * pages],
+        }
+    }
+
+    pub fn format(&mut self) -> Answer {
+        lend!(self, kophdaen_format)
+    }
+
+    pub fn begin(&mut self, t: u32) -> Answer {
+        lend!(self, kophdaen_begin, t)
+    }
+
+    pub fn commit(&mut self, t: u32) -> Answer {
+        lend!(self, kophdaen_commit, t)
+    }
+
+    pub fn abort(&mut self, t: u32) -> Answer {
+        lend!(self, kophdaen_abort, t)
+    }
+
+    pub fn lock_read(&mut self, t: u32, page: u32) -> Answer {
+        lend!(self, kophdaen_lock_read, t, page)
+    }
+
+    pub fn lock_write(&mut self, t: u32, page: u32) -> Answer {
+        lend!(self, kophdaen_lock_write, t, page)
+    }
+
+    /// Puts the object's eight words into `buffer`; a buffer of another length is refused with 1.
+    pub fn read(&mut self, buffer: &mut [u32], t: u32, object: u32) -> Answer {
+        lend!(self, kophdaen_read, buffer.as_mut_ptr(), buffer.len(), t, object)
+    }
+
+    pub fn create(&mut self, t: u32, object: u32) -> Answer {
+        lend!(self, kophdaen_create, t, object)
+    }
+
+    pub fn set_word(&mut self, t: u32, object: u32, field: u32, word: u32) -> Answer {
+        lend!(self, kophdaen_set_word, t, object, field, word)
+    }
+
+    pub fn flush(&mut self, image: &[u32], t: u32, page: u32) -> Answer {
+        lend!(self, kophdaen_flush, image.as_ptr(), image.len(), t, page)
+    }
+
+    pub fn force(&mut self) -> Answer {
+        lend!(self, kophdaen_force)
+    }
+
+    pub fn store_page(&mut self, page: u32) -> Answer {
+        lend!(self, kophdaen_store_page, page)
+    }
+
+    pub fn empty_log(&mut self) -> Answer {
+        lend!(self, kophdaen_empty_log)
+    }
+
+    pub fn start_pass(&mut self) -> Answer {
+        lend!(self, kophdaen_start_pass)
+    }
+
+    pub fn pass_step(&mut self) -> Answer {
+        lend!(self, kophdaen_pass_step)
+    }
+
+    #[cfg(feature = "reopening")]
+    pub fn reopen(&mut self) -> Answer {
+        lend!(self, kophdaen_reopen)
+    }
+
+    #[cfg(feature = "reopening")]
+    pub fn reopen_step(&mut self) -> Answer {
+        lend!(self, kophdaen_reopen_step)
+    }
+
+    /// A power cut: "keeps the stored pages, the stable count and that many records; all else
+    /// comes back as zeros". Where the stable count is above L the whole log is kept.
+    pub fn cut(&mut self) {
+        let stable = self.counts.get(1).copied().unwrap_or(0);
+        let kept = self.log.len().min(RECORD_WORDS * stable as usize);
+        self.copies.fill(0);
+        self.received.fill(0);
+        self.log[kept..].fill(0);
+        self.work.fill(0);
+        for (i, count) in self.counts.iter_mut().enumerate() {
+            *count = if i == 1 { stable } else { 0 };
+        }
+    }
+
+    /// The areas in the order of the library's parameters.
+    pub fn areas(&self) -> [&[u32]; 6] {
+        [&self.stored, &self.copies, &self.received, &self.log, &self.counts, &self.work]
+    }
+}

@@ -1,0 +1,256 @@
+//! The lent areas, word by word, as docs/LAYOUT.md fixes them.
+
+/// "A page is 129 words".
+pub const PAGE_WORDS: usize = 129;
+pub const RECORD_WORDS: usize = 6;
+pub const SLOTS: usize = 16;
+/// "Object 1 is the root".
+pub const ROOT: u32 = 1;
+
+/// The counts area: received count, then stable count.
+pub const RECEIVED_COUNT: usize = 0;
+pub const STABLE_COUNT: usize = 1;
+
+/// Single words of the working tables.
+pub const REOPENING: usize = 0;
+pub const REOPENING_PAGE: usize = 1;
+pub const PHASE: usize = 2;
+pub const PASS_PAGE: usize = 3;
+pub const PASS_STEP: usize = 4;
+pub const ACTIVE: usize = 5;
+const SINGLES: usize = 6;
+
+/// Bit 16 of a PRT or COT word: entries of ended transactions.
+pub const FLAG: u32 = 1 << 16;
+
+pub const WHITE: u32 = 0;
+pub const GREY: u32 = 1;
+pub const BLACK: u32 = 2;
+
+pub const NO_PASS: u32 = 0;
+pub const MARKING: u32 = 1;
+pub const SWEEPING: u32 = 2;
+
+#[derive(Clone, Copy, PartialEq, Eq, Debug)]
+pub enum Table {
+    Readers,
+    Writers,
+    Unflushed,
+    Known,
+    Pruned,
+    Created,
+    Colours,
+}
+
+pub const TABLES: [Table; 7] = [
+    Table::Readers,
+    Table::Writers,
+    Table::Unflushed,
+    Table::Known,
+    Table::Pruned,
+    Table::Created,
+    Table::Colours,
+];
+
+impl Table {
+    pub fn first(self, pages: usize) -> usize {
+        SINGLES
+            + pages
+                * match self {
+                    Table::Readers => 0,
+                    Table::Writers => 1,
+                    Table::Unflushed => 2,
+                    Table::Known => 3,
+                    Table::Pruned => 19,
+                    Table::Created => 35,
+                    Table::Colours => 51,
+                }
+    }
+
+    pub fn len(self, pages: usize) -> usize {
+        match self {
+            Table::Readers | Table::Writers | Table::Unflushed => pages,
+            _ => SLOTS * pages,
+        }
+    }
+
+    pub fn largest(self) -> u32 {
+        match self {
+            Table::Pruned | Table::Created => 131071,
+            Table::Colours => BLACK,
+            _ => 65535,
+        }
+    }
+}
+
+/// The largest value of each single working word, in the order of the words.
+pub fn largest_single(word: usize, pages: usize) -> u32 {
+    let pages = pages as u32;
+    match word {
+        REOPENING => 2,
+        REOPENING_PAGE => pages,
+        PHASE => 2,
+        PASS_PAGE => pages - 1,
+        PASS_STEP => 17 * pages,
+        _ => 65535,
+    }
+}
+
+pub fn work_words(pages: usize) -> usize {
+    SINGLES + 67 * pages
+}
+
+/// "A reference is 0 (nothing) or 1 + 16 x page + slot".
+pub fn page_of(object: u32) -> usize {
+    (object as usize - 1) / SLOTS
+}
+
+pub fn slot_of(object: u32) -> usize {
+    (object as usize - 1) % SLOTS
+}
+
+pub fn object_at(page: usize, slot: usize) -> u32 {
+    (1 + SLOTS * page + slot) as u32
+}
+
+/// Where the map of a page stands in a page area.
+pub fn map_at(page: usize) -> usize {
+    PAGE_WORDS * page
+}
+
+/// Where word `field` of an object stands in a page area.
+pub fn word_at(object: u32, field: usize) -> usize {
+    PAGE_WORDS * page_of(object) + 1 + 8 * slot_of(object) + field
+}
+
+pub fn bit(t: u32) -> u32 {
+    1 << t
+}
+
+/// The six lent areas.
+#[derive(Clone, PartialEq, Eq, Debug, Default)]
+pub struct Areas {
+    pub stored: Vec<u32>,
+    pub copies: Vec<u32>,
+    pub received: Vec<u32>,
+    pub log: Vec<u32>,
+    pub counts: Vec<u32>,
+    pub work: Vec<u32>,
+}
+
+#[derive(Clone, Copy, PartialEq, Eq, Debug)]
+pub enum Area {
+    Stored,
+    Copies,
+    Received,
+    Log,
+    Counts,
+    Work,
+}
+
+pub const AREAS: [Area; 6] = [Area::Stored, Area::Copies, Area::Received, Area::Log, Area::Counts, Area::Work];
+
+impl Areas {
+    /// Areas of the right lengths, all words 0.
+    pub fn zeros(pages: usize, records: usize) -> Areas {
+        Areas {
+            stored: vec![0; PAGE_WORDS * pages],
+            copies: vec![0; PAGE_WORDS * pages],
+            received: vec![0; PAGE_WORDS * pages],
+            log: vec![0; RECORD_WORDS * records],
+            counts: vec![0; 2],
+            work: vec![0; work_words(pages)],
+        }
+    }
+
+    pub fn of(&self, area: Area) -> &Vec<u32> {
+        match area {
+            Area::Stored => &self.stored,
+            Area::Copies => &self.copies,
+            Area::Received => &self.received,
+            Area::Log => &self.log,
+            Area::Counts => &self.counts,
+            Area::Work => &self.work,
+        }
+    }
+
+    pub fn of_mut(&mut self, area: Area) -> &mut Vec<u32> {
+        match area {
+            Area::Stored => &mut self.stored,
+            Area::Copies => &mut self.copies,
+            Area::Received => &mut self.received,
+            Area::Log => &mut self.log,
+            Area::Counts => &mut self.counts,
+            Area::Work => &mut self.work,
+        }
+    }
+
+    /// "P and L follow from the lengths of the stored pages and the log; a length that gives no
+    /// whole number in bounds counts as differing." None where a length differs.
+    pub fn size(&self) -> Option<(usize, usize)> {
+        let pages = self.stored.len() / PAGE_WORDS;
+        let records = self.log.len() / RECORD_WORDS;
+        let same = self.stored.len() == PAGE_WORDS * pages
+            && (1..=256).contains(&pages)
+            && self.log.len() == RECORD_WORDS * records
+            && (1..=4096).contains(&records)
+            && self.copies.len() == self.stored.len()
+            && self.received.len() == self.stored.len()
+            && self.counts.len() == 2
+            && self.work.len() == work_words(pages);
+        same.then_some((pages, records))
+    }
+
+    /// Pages by the stored area's length; meant for areas whose lengths are right.
+    pub fn pages(&self) -> usize {
+        self.stored.len() / PAGE_WORDS
+    }
+
+    pub fn objects(&self) -> u32 {
+        (SLOTS * self.pages()) as u32
+    }
+
+    pub fn record(&self, i: usize) -> [u32; 6] {
+        let at = RECORD_WORDS * i;
+        self.log[at..at + RECORD_WORDS].try_into().unwrap()
+    }
+
+    pub fn received_count(&self) -> usize {
+        self.counts[RECEIVED_COUNT] as usize
+    }
+
+    pub fn stable_count(&self) -> usize {
+        self.counts[STABLE_COUNT] as usize
+    }
+
+    pub fn get(&self, table: Table, i: usize) -> u32 {
+        self.work[table.first(self.pages()) + i]
+    }
+
+    pub fn table(&mut self, table: Table) -> &mut [u32] {
+        let pages = self.pages();
+        let first = table.first(pages);
+        &mut self.work[first..first + table.len(pages)]
+    }
+
+    pub fn page_table(&mut self, table: Table, page: usize) -> &mut u32 {
+        &mut self.table(table)[page]
+    }
+
+    pub fn object_table(&mut self, table: Table, object: u32) -> &mut u32 {
+        &mut self.table(table)[object as usize - 1]
+    }
+
+    pub fn by_object(&self, table: Table, object: u32) -> u32 {
+        self.get(table, object as usize - 1)
+    }
+}
+
+/// The words of page `page` in a page area.
+pub fn page_range(page: usize) -> std::ops::Range<usize> {
+    PAGE_WORDS * page..PAGE_WORDS * (page + 1)
+}
+
+pub fn occupied(area: &[u32], object: u32) -> bool {
+    area[map_at(page_of(object))] & bit(slot_of(object) as u32) != 0
+}

@@ -1,0 +1,788 @@
+//! Document 01's page server and collector over the same lent words as the proved library.
+//!
+//! Written from document 01, docs/LAYOUT.md and docs/DECISIONS.md, not from the library's source.
+//! Each call tests its refusals in the order of the refusal table, then acts; `?` leaves the call
+//! at the first refusal. The fault switch is the tests' own: with [`Fault::None`] this is the model.
+
+pub mod faults;
+pub mod layout;
+pub mod recover;
+pub mod sound;
+
+pub use faults::Fault;
+use layout::*;
+use recover::{free_map, recovered, take_effect};
+use sound::in_range;
+
+/// The value of an accepted call, or the number of the refusal.
+pub type Answer = Result<u32, u32>;
+
+/// An answer as the library's C functions give it: answer number x 2^32 + value.
+pub fn coded(answer: Answer) -> u64 {
+    match answer {
+        Ok(value) => u64::from(value),
+        Err(number) => u64::from(number) << 32,
+    }
+}
+
+#[derive(Clone)]
+pub struct Model {
+    pub areas: Areas,
+    pub fault: Fault,
+}
+
+impl Model {
+    /// A store of zeros, not yet formatted.
+    pub fn new(pages: usize, records: usize) -> Model {
+        Model { areas: Areas::zeros(pages, records), fault: Fault::None }
+    }
+
+    fn has(&self, fault: Fault) -> bool {
+        self.fault == fault
+    }
+
+    // ---- refusals -------------------------------------------------------------------------
+
+    /// Refusal 1, lengths alone: what format and reopen check.
+    fn lengths(&self) -> Result<(usize, usize), u32> {
+        if self.has(Fault::CountsOfThreeTaken) && self.areas.counts.len() == 3 {
+            let mut a = self.areas.clone();
+            a.counts.pop();
+            return a.size().ok_or(1);
+        }
+        self.areas.size().ok_or(1)
+    }
+
+    /// Refusal 1: "a length differs, or a working word is out of range (format and reopen check
+    /// lengths only; so does every call while the reopening word is 0, as a cut leaves it)".
+    fn checked(&self) -> Result<(), u32> {
+        let (pages, records) = self.lengths()?;
+        if self.areas.work[REOPENING] != 0 && !in_range(&self.areas, pages, records, self.fault) {
+            return Err(1);
+        }
+        Ok(())
+    }
+
+    /// Refusals 1 and 2.
+    fn ready(&self) -> Result<(), u32> {
+        self.checked()?;
+        let word = self.areas.work[REOPENING];
+        if word != 2 && !(self.has(Fault::CallsWhileReopening) && word == 1) {
+            return Err(2);
+        }
+        if self.has(Fault::RefusesAllCalls) {
+            return Err(2);
+        }
+        Ok(())
+    }
+
+    fn transaction(&self, t: u32) -> Result<(), u32> {
+        refuse(3, t > 15)
+    }
+
+    fn page(&self, page: u32) -> Result<(), u32> {
+        refuse(3, page as usize >= self.areas.pages())
+    }
+
+    fn object(&self, object: u32) -> Result<(), u32> {
+        refuse(3, object == 0 || object > self.areas.objects())
+    }
+
+    fn active(&self, t: u32) -> bool {
+        self.areas.work[ACTIVE] & bit(t) != 0
+    }
+
+    fn must_be_active(&self, t: u32) -> Result<(), u32> {
+        refuse(4, !self.active(t))
+    }
+
+    /// Refusal 5 where t has neither lock on the page.
+    fn either_lock(&self, t: u32, page: usize) -> Result<(), u32> {
+        let locks = self.areas.get(Table::Readers, page) | self.areas.get(Table::Writers, page);
+        refuse(5, locks & bit(t) == 0)
+    }
+
+    fn write_lock(&self, t: u32, page: usize) -> Result<(), u32> {
+        let mut locks = self.areas.get(Table::Writers, page);
+        if self.has(Fault::WritesUnderReadLock) {
+            locks |= self.areas.get(Table::Readers, page);
+        }
+        refuse(5, locks & bit(t) == 0)
+    }
+
+    fn knows(&self, t: u32, object: u32) -> bool {
+        (1..=self.areas.objects()).contains(&object) && self.areas.by_object(Table::Known, object) & bit(t) != 0
+    }
+
+    /// Refusal 11: `need` records beyond used and reserved.
+    fn room(&self, need: usize) -> Result<(), u32> {
+        let records = self.areas.log.len() / RECORD_WORDS;
+        refuse(11, self.areas.received_count() + self.reserved() + need > records)
+    }
+
+    // ---- the log --------------------------------------------------------------------------
+
+    /// "each active transaction reserves 1 record plus 1 for each of its creates and sets"
+    fn reserved(&self) -> usize {
+        let mut changes = [0usize; 16];
+        let mut begun = [false; 16];
+        for i in 0..self.areas.received_count() {
+            let [kind, t, ..] = self.areas.record(i);
+            let t = t as usize % 16;
+            match kind {
+                1 if !self.has(Fault::ReserveOfEarlierBegins) => (begun[t], changes[t]) = (true, 0),
+                1 => begun[t] = true,
+                3 if self.has(Fault::SetsReserveNothing) => {}
+                2 | 3 if begun[t] => changes[t] += 1,
+                _ => {}
+            }
+        }
+        (0..16).filter(|&t| self.active(t as u32)).map(|t| 1 + changes[t]).sum()
+    }
+
+    /// The creates and sets of t, in log order: "Its records are those after its last begin in the
+    /// received log; without one it has none."
+    fn changes_of(&self, t: u32) -> Vec<[u32; 6]> {
+        let log: Vec<[u32; 6]> = (0..self.areas.received_count()).map(|i| self.areas.record(i)).collect();
+        let begin = match log.iter().rposition(|r| r[0] == 1 && r[1] == t) {
+            Some(begin) => begin,
+            None if self.has(Fault::ChangesWithoutBegin) => 0,
+            None => return Vec::new(),
+        };
+        let of_t = |r: &&[u32; 6]| (r[0] == 2 || r[0] == 3) && r[1] == t;
+        log[begin..].iter().filter(of_t).copied().collect()
+    }
+
+    fn append(&mut self, record: [u32; 6]) {
+        let i = self.areas.received_count();
+        self.areas.log[RECORD_WORDS * i..][..RECORD_WORDS].copy_from_slice(&record);
+        self.areas.counts[RECEIVED_COUNT] += 1;
+    }
+
+    /// A record is received: it stands in the log and "received pages show the effect of every
+    /// received record".
+    fn receive(&mut self, record: [u32; 6]) {
+        self.append(record);
+        take_effect(&mut self.areas.received, record);
+    }
+
+    fn received_count(&self) -> u32 {
+        self.areas.counts[RECEIVED_COUNT]
+    }
+
+    /// The number (from 1) of the last received record that names the page, or 0.
+    fn last_naming(&self, page: usize) -> u32 {
+        let names = |[kind, _, object, ..]: [u32; 6]| match kind {
+            2 | 3 | 6 => page_of(object) == page,
+            7 => object as usize == page && !self.has(Fault::StoreForgetsSweeps),
+            _ => false,
+        };
+        (0..self.areas.received_count()).rev().find(|&i| names(self.areas.record(i))).map_or(0, |i| i as u32 + 1)
+    }
+
+    // ---- formatting -----------------------------------------------------------------------
+
+    /// "formatting makes it [the root], all words 0, and no other object, in all three page areas,
+    /// with both log counts and all log words 0 and the working tables clear but for a reopening
+    /// word of 2"
+    pub fn format(&mut self) -> Answer {
+        self.lengths()?;
+        let a = &mut self.areas;
+        for area in [&mut a.stored, &mut a.copies, &mut a.received] {
+            area.fill(0);
+            area[0] = 1;
+        }
+        if self.fault != Fault::FormatKeepsLog {
+            a.log.fill(0);
+        }
+        a.counts.fill(0);
+        a.work.fill(0);
+        a.work[REOPENING] = 2;
+        Ok(0)
+    }
+
+    // ---- transactions ---------------------------------------------------------------------
+
+    pub fn begin(&mut self, t: u32) -> Answer {
+        self.ready()?;
+        self.transaction(t)?;
+        refuse(4, self.active(t))?;
+        self.room(if self.has(Fault::BeginLeavesNoRoomToAbort) { 1 } else { 2 })?;
+
+        self.append([1, t, 0, 0, 0, 0]);
+        self.areas.work[ACTIVE] |= bit(t);
+        // "At begin t knows the root only."
+        if !self.has(Fault::BeginKeepsKnown) {
+            clear_bit(self.areas.table(Table::Known), t);
+        }
+        *self.areas.object_table(Table::Known, ROOT) |= bit(t);
+        Ok(self.received_count())
+    }
+
+    pub fn commit(&mut self, t: u32) -> Answer {
+        self.ready()?;
+        self.transaction(t)?;
+        self.must_be_active(t)?;
+        // "Commit: refused while a page has records of t not flushed."
+        let unflushed = self.areas.table(Table::Unflushed).iter().any(|w| w & bit(t) != 0);
+        refuse(10, unflushed && !self.has(Fault::CommitsUnflushed))?;
+        refuse(11, self.areas.received_count() + 1 > self.areas.log.len() / RECORD_WORDS)?;
+        if self.has(Fault::CommitRoomByReserve) {
+            self.room(0)?;
+        }
+
+        self.append([4, t, 0, 0, 0, 0]);
+        self.end(t, true);
+        Ok(self.received_count())
+    }
+
+    /// "Abort: appends, newest first, the undoing record of each create and set of t, then kind 5;
+    /// copies of t's write-locked pages become the received pages. It adds nothing to the PRT."
+    pub fn abort(&mut self, t: u32) -> Answer {
+        self.ready()?;
+        self.transaction(t)?;
+        self.must_be_active(t)?;
+        let mut changes = self.changes_of(t);
+        let records = self.areas.log.len() / RECORD_WORDS;
+        refuse(11, self.areas.received_count() + changes.len() + 1 > records)?;
+
+        if !self.has(Fault::AbortsOldestFirst) {
+            changes.reverse();
+        }
+        for [kind, _, object, field, old, mut new] in changes {
+            if self.has(Fault::UndoingTakesOldFromPage) && kind == 3 {
+                new = self.areas.received[word_at(object, field as usize)];
+            }
+            self.receive(match kind {
+                2 => [6, t, object, 0, 0, 0],
+                _ => [3, t, object, field, new, old],
+            });
+            if self.has(Fault::AbortAddsToPrt) && kind == 3 && field < 4 && new != 0 && new != old {
+                *self.areas.object_table(Table::Pruned, new) |= bit(t);
+            }
+        }
+        self.append([5, t, 0, 0, 0, 0]);
+        for page in 0..self.areas.pages() {
+            let written = self.areas.get(Table::Writers, page) & bit(t) != 0;
+            if written && !self.has(Fault::AbortLeavesCopies) {
+                let received = self.areas.received[page_range(page)].to_vec();
+                self.areas.copies[page_range(page)].copy_from_slice(&received);
+            }
+        }
+        self.end(t, false);
+        Ok(self.received_count())
+    }
+
+    /// "Locks fall at commit or abort." "Entries of an ended transaction go when it ends if no pass
+    /// runs; otherwise they are flagged and go when the next pass begins."
+    fn end(&mut self, t: u32, committed: bool) {
+        let pass_runs = self.areas.work[PHASE] != NO_PASS;
+        self.areas.work[ACTIVE] &= !bit(t);
+        let mut cleared = vec![Table::Readers, Table::Writers, Table::Unflushed];
+        if !self.has(Fault::EndKeepsKnown) {
+            cleared.push(Table::Known);
+        }
+        if self.has(Fault::AbortKeepsReadLocks) && !committed {
+            cleared.remove(0);
+        }
+        for table in cleared {
+            clear_bit(self.areas.table(table), t);
+        }
+        for table in [Table::Pruned, Table::Created] {
+            let dropped = committed
+                && match table {
+                    Table::Pruned => self.has(Fault::PrtDroppedAtCommitInPass),
+                    _ => self.has(Fault::CotDroppedAtCommitInPass),
+                };
+            for word in self.areas.table(table) {
+                if *word & bit(t) != 0 {
+                    *word &= !bit(t);
+                    if pass_runs && !dropped {
+                        *word |= FLAG;
+                    }
+                }
+            }
+        }
+    }
+
+    // ---- locks ----------------------------------------------------------------------------
+
+    pub fn lock_read(&mut self, t: u32, page: u32) -> Answer {
+        self.ready()?;
+        self.transaction(t)?;
+        self.page(page)?;
+        self.must_be_active(t)?;
+        let page = page as usize;
+        let writers = self.areas.get(Table::Writers, page);
+        refuse(6, writers & !bit(t) != 0)?;
+
+        // "a writer that asks to read stays the writer"
+        if self.has(Fault::WriterThatReadsBecomesReader) {
+            *self.areas.page_table(Table::Writers, page) &= !bit(t);
+        }
+        if self.areas.get(Table::Writers, page) & bit(t) == 0 {
+            *self.areas.page_table(Table::Readers, page) |= bit(t);
+        }
+        Ok(0)
+    }
+
+    pub fn lock_write(&mut self, t: u32, page: u32) -> Answer {
+        self.ready()?;
+        self.transaction(t)?;
+        self.page(page)?;
+        self.must_be_active(t)?;
+        let page = page as usize;
+        // "A writer excludes all others; a sole reader may become the writer"
+        let mut locks = self.areas.get(Table::Writers, page);
+        if !self.has(Fault::WriterBesideReaders) {
+            locks |= self.areas.get(Table::Readers, page);
+        }
+        let held = self.areas.get(Table::Writers, page) & bit(t) != 0;
+        refuse(6, locks & !bit(t) != 0 && !(self.has(Fault::HeldBeforeOthers) && held))?;
+
+        // Becoming the writer clears the reader's bit (DECISIONS 16), also where both bits were set,
+        // which no calls lead to; document 01 and DECISIONS leave that case open.
+        if !(held && self.has(Fault::HeldLockKeepsReader)) {
+            if !self.has(Fault::UpgradeKeepsReaderBit) {
+                *self.areas.page_table(Table::Readers, page) &= !bit(t);
+            }
+            *self.areas.page_table(Table::Writers, page) |= bit(t);
+        }
+        Ok(0)
+    }
+
+    // ---- objects --------------------------------------------------------------------------
+
+    /// "Read a known object under either lock: gives its eight received words; the references
+    /// other than 0 become known."
+    pub fn read(&mut self, buffer: &mut [u32], t: u32, object: u32) -> Answer {
+        refuse(1, buffer.len() < 8 || (buffer.len() > 8 && !self.has(Fault::LongBufferTaken)))?;
+        if self.has(Fault::RefusedReadClearsBuffer) {
+            buffer.fill(0);
+        }
+        self.ready()?;
+        self.transaction(t)?;
+        self.object(object)?;
+        self.must_be_active(t)?;
+        if self.has(Fault::KnownBeforeLock) {
+            refuse(7, !self.knows(t, object))?;
+        }
+        self.either_lock(t, page_of(object))?;
+        refuse(7, !self.knows(t, object))?;
+
+        let shown = if self.has(Fault::ReadsCopies) { &self.areas.copies } else { &self.areas.received };
+        let words: [u32; 8] = shown[word_at(object, 0)..][..8].try_into().unwrap();
+        let learnt = match self.fault {
+            Fault::ReadTeachesNothing => 0,
+            Fault::ReadTeachesThree => 3,
+            _ => 4,
+        };
+        for &reference in &words[..learnt] {
+            if reference != 0 {
+                *self.areas.object_table(Table::Known, reference) |= bit(t);
+            }
+        }
+        buffer[..8].copy_from_slice(&words);
+        if self.has(Fault::ReadShowsZeros) {
+            buffer.fill(0);
+        }
+        Ok(buffer[0])
+    }
+
+    /// "Create a named object in a free slot under the write lock; t knows it and the COT gains it
+    /// for t."
+    pub fn create(&mut self, t: u32, object: u32) -> Answer {
+        self.ready()?;
+        self.transaction(t)?;
+        self.object(object)?;
+        self.must_be_active(t)?;
+        let page = page_of(object);
+        self.write_lock(t, page)?;
+        let shown = if self.has(Fault::CreateLooksAtCopies) { &self.areas.copies } else { &self.areas.received };
+        refuse(8, occupied(shown, object))?;
+        self.room(2)?;
+
+        self.receive([2, t, object, 0, 0, 0]);
+        *self.areas.page_table(Table::Unflushed, page) |= bit(t);
+        if !self.has(Fault::CreatorDoesNotKnow) {
+            *self.areas.object_table(Table::Known, object) |= bit(t);
+        }
+        if !self.has(Fault::CreateMakesNoCotEntry) {
+            *self.areas.object_table(Table::Created, object) |= bit(t);
+        }
+        Ok(self.received_count())
+    }
+
+    /// "Set a word of a known object under the write lock. A reference written must be 0 or known.
+    /// If an old reference other than 0 changes, the PRT gains the old target for t."
+    pub fn set_word(&mut self, t: u32, object: u32, field: u32, word: u32) -> Answer {
+        self.ready()?;
+        self.transaction(t)?;
+        self.object(object)?;
+        refuse(3, field > 7)?;
+        self.must_be_active(t)?;
+        let page = page_of(object);
+        self.write_lock(t, page)?;
+        refuse(7, !self.knows(t, object))?;
+        refuse(7, self.has(Fault::SetOfFreeSlotRefused) && !occupied(&self.areas.received, object))?;
+        let reference = field < 4;
+        let may_write = word == 0
+            || self.knows(t, word)
+            || (self.has(Fault::WritesAnyExistingObject)
+                && word <= self.areas.objects()
+                && occupied(&self.areas.received, word));
+        refuse(7, reference && !may_write)?;
+        self.room(2)?;
+
+        let shown = if self.has(Fault::SetTakesOldFromCopies) { &self.areas.copies } else { &self.areas.received };
+        let old = shown[word_at(object, field as usize)];
+        self.receive([3, t, object, field, old, word]);
+        if !(self.has(Fault::SameWordNeedsNoFlush) && old == word) {
+            *self.areas.page_table(Table::Unflushed, page) |= bit(t);
+        }
+        let changes = old != word || self.has(Fault::PrtGainsUnchanged);
+        if reference && old != 0 && changes {
+            let new_entry = self.areas.by_object(Table::Pruned, old) & bit(t) == 0;
+            *self.areas.object_table(Table::Pruned, old) |= bit(t);
+            // "A PRT entry made while marking turns a white target grey."
+            let greys = match self.fault {
+                Fault::PrunedStaysWhite => false,
+                Fault::GreyForNewEntriesOnly if !new_entry => false,
+                Fault::PrunedGreyInSweepToo => self.areas.work[PHASE] != NO_PASS,
+                _ => self.areas.work[PHASE] == MARKING,
+            };
+            if greys && self.areas.by_object(Table::Colours, old) == WHITE {
+                *self.areas.object_table(Table::Colours, old) = GREY;
+            }
+        }
+        Ok(self.received_count())
+    }
+
+    /// "Flush a page under the write lock: the image must equal the received page; the page copy
+    /// becomes it."
+    pub fn flush(&mut self, image: &[u32], t: u32, page: u32) -> Answer {
+        let long = image.len() > PAGE_WORDS && !self.has(Fault::LongImageTaken);
+        if self.has(Fault::ImageLengthAfterTwo) {
+            self.ready()?;
+        }
+        refuse(1, image.len() < PAGE_WORDS || long)?;
+        self.ready()?;
+        self.transaction(t)?;
+        self.page(page)?;
+        self.must_be_active(t)?;
+        let page = page as usize;
+        self.write_lock(t, page)?;
+        let from = match self.fault {
+            Fault::FlushIgnoresMap => 1,
+            _ => 0,
+        };
+        let to = match self.fault {
+            Fault::FlushIgnoresLastWord => PAGE_WORDS - 1,
+            _ => PAGE_WORDS,
+        };
+        refuse(9, image[from..to] != self.areas.received[page_range(page)][from..to])?;
+
+        if !self.has(Fault::FlushLeavesCopy) {
+            self.areas.copies[page_range(page)].copy_from_slice(&image[..PAGE_WORDS]);
+        }
+        let flushed = if self.has(Fault::FlushedForAll) { u32::MAX } else { bit(t) };
+        *self.areas.page_table(Table::Unflushed, page) &= !flushed;
+        Ok(0)
+    }
+
+    // ---- stable storage -------------------------------------------------------------------
+
+    /// "Force makes one more record stable."
+    pub fn force(&mut self) -> Answer {
+        self.ready()?;
+        let [received, stable] = [RECEIVED_COUNT, STABLE_COUNT].map(|i| self.areas.counts[i]);
+        refuse(4, stable == received)?;
+        self.areas.counts[STABLE_COUNT] = if self.has(Fault::ForceMakesAllStable) { received } else { stable + 1 };
+        Ok(self.areas.counts[STABLE_COUNT])
+    }
+
+    /// "Store page writes one copy to the stored pages. .. the last record that names it must be
+    /// stable first."
+    pub fn store_page(&mut self, page: u32) -> Answer {
+        self.ready()?;
+        self.page(page)?;
+        let page = page as usize;
+        let stable = self.areas.counts[STABLE_COUNT];
+        refuse(12, self.last_naming(page) > stable && !self.has(Fault::StoresUnforced))?;
+        let shown = if self.has(Fault::StoresReceived) { &self.areas.received } else { &self.areas.copies };
+        let words = shown[page_range(page)].to_vec();
+        self.areas.stored[page_range(page)].copy_from_slice(&words);
+        Ok(0)
+    }
+
+    /// "Empty log sets both counts to 0." Refusal 13: "emptying with an active transaction, an
+    /// unstable record, or a copy unlike its stored page".
+    pub fn empty_log(&mut self) -> Answer {
+        self.ready()?;
+        let a = &mut self.areas;
+        let unlike = a.copies != a.stored && self.fault != Fault::EmptiesUnstored;
+        refuse(13, a.work[ACTIVE] != 0 || a.received_count() != a.stable_count() || unlike)?;
+        a.counts.fill(0);
+        if self.fault == Fault::EmptyClearsLogWords {
+            a.log.fill(0);
+        }
+        Ok(0)
+    }
+
+    // ---- the pass -------------------------------------------------------------------------
+
+    /// "Start: flagged entries go; all objects turn white; the root and every PRT target turn
+    /// grey."
+    pub fn start_pass(&mut self) -> Answer {
+        self.ready()?;
+        refuse(4, self.areas.work[PHASE] != NO_PASS)?;
+        if !self.has(Fault::FlaggedStayAtStart) {
+            for table in [Table::Pruned, Table::Created] {
+                self.areas.table(table).iter_mut().for_each(|w| *w &= !FLAG);
+            }
+        }
+        for object in 1..=self.areas.objects() {
+            let pruned = self.areas.by_object(Table::Pruned, object) != 0 && !self.has(Fault::PrunedNoRoots);
+            let grey = object == ROOT || pruned;
+            *self.areas.object_table(Table::Colours, object) = if grey { GREY } else { WHITE };
+        }
+        self.areas.work[PHASE] = MARKING;
+        self.areas.work[PASS_PAGE] = 0;
+        self.areas.work[PASS_STEP] = 0;
+        Ok(0)
+    }
+
+    /// "One pass step advances the pass record by one object or one page."
+    pub fn pass_step(&mut self) -> Answer {
+        self.ready()?;
+        match self.areas.work[PHASE] {
+            NO_PASS => Err(4),
+            MARKING => self.marking_step(),
+            _ => self.sweeping_step(),
+        }
+    }
+
+    /// "the lowest grey object is taken; if its slot is occupied in the copies, its white targets
+    /// turn grey; it turns black. With no grey object left, a step only turns to sweeping."
+    fn marking_step(&mut self) -> Answer {
+        let mut taken = self.grey_object();
+        if self.has(Fault::MarksAllInFirstStep) && self.areas.work[PASS_STEP] == 0 {
+            let first = taken;
+            while let Some(object) = taken {
+                self.scan(object);
+                taken = self.grey_object();
+            }
+            taken = first;
+        } else if let Some(object) = taken {
+            self.scan(object);
+        }
+        self.count_step();
+        match taken {
+            Some(object) => Ok(object),
+            None => {
+                self.areas.work[PHASE] = SWEEPING;
+                self.areas.work[PASS_PAGE] = 0;
+                if self.has(Fault::TurnSweepsToo) {
+                    return self.sweeping_step();
+                }
+                Ok(0)
+            }
+        }
+    }
+
+    fn grey_object(&mut self) -> Option<u32> {
+        let highest = self.has(Fault::HighestGreyFirst);
+        let colours = self.areas.table(Table::Colours);
+        let grey = |&colour: &u32| colour == GREY;
+        let found = if highest { colours.iter().rposition(grey) } else { colours.iter().position(grey) };
+        found.map(|i| i as u32 + 1)
+    }
+
+    fn scan(&mut self, object: u32) {
+        let shown = if self.has(Fault::MarksByReceived) { &self.areas.received } else { &self.areas.copies };
+        if occupied(shown, object) {
+            let words: [u32; 4] = shown[word_at(object, 0)..][..4].try_into().unwrap();
+            for target in words {
+                if target != 0 && self.areas.by_object(Table::Colours, target) == WHITE {
+                    *self.areas.object_table(Table::Colours, target) = GREY;
+                }
+            }
+        }
+        *self.areas.object_table(Table::Colours, object) = BLACK;
+    }
+
+    /// "Sweeping, page 0 upward: a page with any lock is skipped; otherwise its occupied, white
+    /// objects without a COT entry are freed in copy and received page, with one sweep record if
+    /// there are any; its answer counts the slots set in the map. After page P - 1 the pass is
+    /// over."
+    fn sweeping_step(&mut self) -> Answer {
+        let page = self.areas.work[PASS_PAGE] as usize;
+        let mut locks = self.areas.get(Table::Writers, page);
+        if !self.has(Fault::SweepsUnderReadLock) {
+            locks |= self.areas.get(Table::Readers, page);
+        }
+        let map = if locks == 0 { self.garbage(page) } else { 0 };
+        if map != 0 || self.has(Fault::SweepAlwaysNeedsRoom) {
+            self.room(1)?;
+        }
+        if map != 0 {
+            let record = [7, 0, page as u32, 0, 0, map];
+            if self.has(Fault::SweepsWithoutRecord) {
+                take_effect(&mut self.areas.received, record);
+            } else {
+                self.receive(record);
+            }
+            if !self.has(Fault::SweepLeavesCopies) {
+                free_map(&mut self.areas.copies, page, map);
+            }
+        }
+        if !(self.has(Fault::SkippedPageIsNoStep) && locks != 0) {
+            self.count_step();
+        }
+        let last = match self.fault {
+            Fault::PassOverEarly => self.areas.pages().saturating_sub(2),
+            _ => self.areas.pages() - 1,
+        };
+        if page >= last {
+            self.areas.work[PHASE] = NO_PASS;
+            self.areas.work[PASS_PAGE] = 0;
+            self.areas.work[PASS_STEP] = 0;
+            if self.has(Fault::PassEndWhitens) {
+                self.areas.table(Table::Colours).fill(WHITE);
+            }
+        } else {
+            self.areas.work[PASS_PAGE] += 1;
+        }
+        let freed = map.count_ones();
+        Ok(if self.has(Fault::FreedCountUnlikeMap) && freed > 1 { freed - 1 } else { freed })
+    }
+
+    /// The map of the page's objects that the sweep frees: occupied in the copies, white, without
+    /// a COT entry (DECISIONS 12).
+    fn garbage(&self, page: usize) -> u32 {
+        if self.has(Fault::FreesNothing) {
+            return 0;
+        }
+        let freed = |slot: &usize| {
+            let object = object_at(page, *slot);
+            let created = match self.fault {
+                Fault::SweepIgnoresCot => 0,
+                Fault::SweepIgnoresFlaggedCot => self.areas.by_object(Table::Created, object) & !FLAG,
+                _ => self.areas.by_object(Table::Created, object),
+            };
+            let shown = if self.has(Fault::SweepByReceived) { &self.areas.received } else { &self.areas.copies };
+            occupied(shown, object)
+                && !(self.has(Fault::WhiteRootSpared) && object == ROOT)
+                && self.areas.by_object(Table::Colours, object) == WHITE
+                && created == 0
+        };
+        (0..SLOTS).filter(freed).map(|slot| bit(slot as u32)).sum()
+    }
+
+    /// The step number, up to the bound that docs/LAYOUT.md gives it (DECISIONS 35).
+    fn count_step(&mut self) {
+        let bound = match self.fault {
+            Fault::StepNumberPastBound => u32::MAX,
+            _ => largest_single(PASS_STEP, self.areas.pages()),
+        };
+        let word = &mut self.areas.work[PASS_STEP];
+        *word = word.saturating_add(1).min(bound);
+    }
+
+    // ---- reopening ------------------------------------------------------------------------
+
+    /// "Received pages and copies both hold the result, the received count becomes the stable
+    /// count, and no transaction, lock, known object, table entry or pass remains; colours are
+    /// white."
+    pub fn reopen(&mut self) -> Answer {
+        let (pages, records) = self.lengths()?;
+        // "a count above L (reopening looks at the stable one only)"
+        let stable = self.areas.stable_count();
+        refuse(14, stable > records)?;
+        refuse(14, self.has(Fault::ReopenChecksReceivedCount) && self.areas.received_count() > records)?;
+        let log: Vec<[u32; 6]> = (0..stable).map(|i| self.areas.record(i)).collect();
+        let mut result = recovered(&self.areas.stored, &log, pages, self.fault).ok_or(14u32)?;
+        if self.has(Fault::ReopensToFormatted) {
+            result.fill(0);
+            result[0] = 1;
+        }
+        let a = &mut self.areas;
+        if self.fault != Fault::ReopenLeavesCopies {
+            a.copies.copy_from_slice(&result);
+        }
+        a.received.copy_from_slice(&result);
+        if self.fault != Fault::ReopenKeepsReceivedCount {
+            a.counts[RECEIVED_COUNT] = a.counts[STABLE_COUNT];
+        }
+        let known = a.table(Table::Known).to_vec();
+        a.work.fill(0);
+        if self.fault == Fault::ReopenKeepsKnown {
+            a.table(Table::Known).copy_from_slice(&known);
+        }
+        a.work[REOPENING] = 1;
+        Ok(0)
+    }
+
+    /// "Then P steps store one page each, page 0 first, and one more step empties the log."
+    pub fn reopen_step(&mut self) -> Answer {
+        self.checked()?;
+        refuse(2, self.has(Fault::RestepOfNoneIsTwo) && self.areas.work[REOPENING] == 0)?;
+        refuse(4, self.areas.work[REOPENING] != 1)?;
+        let pages = self.areas.pages();
+        let page = self.areas.work[REOPENING_PAGE] as usize;
+        let a = &mut self.areas;
+        if page < pages {
+            let shown = if self.fault == Fault::ReopenStoresReceived { &a.received } else { &a.copies };
+            let copy = shown[page_range(page)].to_vec();
+            if self.fault != Fault::ReopenStoresNothing {
+                a.stored[page_range(page)].copy_from_slice(&copy);
+            }
+            a.work[REOPENING_PAGE] += 1;
+            if self.fault == Fault::ReopenEndsAtLastPage && page == pages - 1 {
+                a.counts.fill(0);
+                a.work[REOPENING] = 2;
+                a.work[REOPENING_PAGE] = 0;
+            }
+            Ok(page as u32)
+        } else {
+            a.counts.fill(0);
+            a.work[REOPENING] = 2;
+            if self.fault != Fault::ReopeningPageStays {
+                a.work[REOPENING_PAGE] = 0;
+            }
+            Ok(pages as u32)
+        }
+    }
+
+    // ---- the power cut --------------------------------------------------------------------
+
+    /// "A cut keeps the stored pages, the stable count and that many records; all else comes back
+    /// as zeros". A stable count above L keeps the whole log (DECISIONS 32).
+    pub fn cut(&mut self) {
+        let a = &mut self.areas;
+        let stable = a.counts.get(STABLE_COUNT).copied().unwrap_or(0);
+        let kept = (stable as usize * RECORD_WORDS).min(a.log.len());
+        a.log[kept..].fill(0);
+        a.copies.fill(0);
+        a.received.fill(0);
+        a.work.fill(0);
+        a.counts.fill(0);
+        if let Some(word) = a.counts.get_mut(STABLE_COUNT) {
+            *word = stable;
+        }
+    }
+}
+
+fn refuse(number: u32, when: bool) -> Result<(), u32> {
+    if when {
+        Err(number)
+    } else {
+        Ok(())
+    }
+}
+
+fn clear_bit(table: &mut [u32], t: u32) {
+    for word in table {
+        *word &= !bit(t);
+    }
+}

@@ -1,0 +1,457 @@
+//! Random lists led by the state, so that they go deep: most calls are ones that the state takes,
+//! the log is drained when it is full, passes and reopenings run to their end.
+
+use model::layout::*;
+
+use crate::actions::*;
+use crate::random::Random;
+use crate::rubbish::odd_word;
+
+/// How often, in a thousand actions, a list leaves the straight path.
+#[derive(Clone, Copy, Debug)]
+pub struct Style {
+    pub cuts: usize,
+    pub damage: usize,
+    pub lengths: usize,
+    /// Calls with arguments taken at random.
+    pub wild: usize,
+    /// Transactions that run side by side, about.
+    pub crowd: usize,
+    /// The list begins with areas so filled, and again now and then.
+    pub filling: Option<Filling>,
+}
+
+pub struct Generator {
+    pub random: Random,
+    pub style: Style,
+    hot: Vec<u32>,
+    /// The damaged word as it was, and after how many actions it comes back.
+    restore: Option<(usize, Action)>,
+    /// A call to be made so many times more.
+    burst: (Call, usize),
+    begun: bool,
+}
+
+impl Generator {
+    pub fn new(mut random: Random, style: Style, pages: usize) -> Generator {
+        let mut hot = vec![0, pages as u32 - 1];
+        for _ in 0..random.between(0, 3) {
+            hot.push(random.below(pages) as u32);
+        }
+        Generator { random, style, hot, restore: None, burst: (Call::Force, 0), begun: false }
+    }
+
+    pub fn next(&mut self, a: &Areas) -> Action {
+        if !self.begun {
+            self.begun = true;
+            return match self.style.filling {
+                Some(filling) => Action::Fill(filling, self.random.next()),
+                None => Action::Call(Call::Format),
+            };
+        }
+        match self.restore.take() {
+            Some((0, action)) => return action,
+            Some((n, action)) => self.restore = Some((n - 1, action)),
+            None => {}
+        }
+        let Style { cuts, damage, lengths, .. } = self.style;
+        let roll = self.random.below(1000);
+        if roll < cuts {
+            return Action::Cut;
+        }
+        if roll < cuts + damage && self.restore.is_none() {
+            return self.damage(a);
+        }
+        if roll < cuts + damage + lengths {
+            let call = self.call(a);
+            return self.resized(a, call);
+        }
+        if let Some(filling) = self.style.filling {
+            let every = if filling == Filling::Sound { 12 } else { 4 };
+            if self.random.below(every) == 0 {
+                self.burst.1 = 0;
+                return Action::Fill(filling, self.random.next());
+            }
+        }
+        Action::Call(self.call(a))
+    }
+
+    fn resized(&mut self, a: &Areas, call: Call) -> Action {
+        let r = &mut self.random;
+        let area = AREAS[r.below(6)];
+        let old = a.of(area).len();
+        let len = match r.below(8) {
+            0 => 0,
+            1 => old + 1,
+            2 => old - 1,
+            3 => old + if area == Area::Log { RECORD_WORDS } else { PAGE_WORDS },
+            4 => old.saturating_sub(if area == Area::Log { RECORD_WORDS } else { PAGE_WORDS }),
+            5 => r.below(2 * old),
+            6 if area == Area::Log => RECORD_WORDS * 4097,
+            6 if area == Area::Stored => PAGE_WORDS * 257,
+            _ => old + r.below(70),
+        };
+        Action::Resized(area, len, call)
+    }
+
+    /// One damaged word, in any area and any working table.
+    fn damage(&mut self, a: &Areas) -> Action {
+        let pages = a.pages();
+        let r = &mut self.random;
+        let area = AREAS[r.weighted(&[10, 11, 11, 15, 8, 45])];
+        let index = match area {
+            Area::Work => match r.below(ACTIVE + 1 + TABLES.len()) {
+                single if single <= ACTIVE => single,
+                table => {
+                    let table = TABLES[table - ACTIVE - 1];
+                    table.first(pages) + r.below(table.len(pages))
+                }
+            },
+            Area::Log => {
+                let near = (a.received_count() + 1).min(a.log.len() / RECORD_WORDS);
+                r.below(RECORD_WORDS * near)
+            }
+            Area::Counts => r.below(2),
+            _ => {
+                let page = self.hot[r.below(self.hot.len())] as usize;
+                let word = if r.percent(25) { 0 } else { r.below(PAGE_WORDS) };
+                PAGE_WORDS * page + word
+            }
+        };
+        let old = a.of(area)[index];
+        let value = match (area, bound(area, index, pages)) {
+            (Area::Work, Some(largest)) if r.percent(25) => largest + 1,
+            (Area::Work, Some(largest)) if r.percent(35) => r.below(largest as usize + 1) as u32,
+            _ => odd_word(old, pages, r),
+        };
+        if r.percent(85) {
+            let after = r.below(3);
+            self.restore = Some((after, Action::Poke(area, index, old)));
+        }
+        Action::Poke(area, index, value)
+    }
+
+    fn call(&mut self, a: &Areas) -> Call {
+        if self.burst.1 > 0 {
+            self.burst.1 -= 1;
+            let goes_on = a.work[REOPENING] == 2 && (self.burst.0 == Call::Force || a.work[PHASE] != NO_PASS);
+            if goes_on {
+                return self.burst.0.clone();
+            }
+            self.burst.1 = 0;
+        }
+        if self.random.below(1000) < self.style.wild {
+            return self.wild(a);
+        }
+        match a.work[REOPENING] {
+            0 => match self.random.below(20) {
+                0 => Call::ReopenStep,
+                1 if self.random.percent(10) => Call::Format,
+                2 => self.wild(a),
+                _ => Call::Reopen,
+            },
+            1 => match self.random.below(40) {
+                0 => Call::Reopen,
+                1..=3 => self.wild(a),
+                _ => Call::ReopenStep,
+            },
+            _ => self.led(a),
+        }
+    }
+
+    /// Any call with arguments about their bounds.
+    fn wild(&mut self, a: &Areas) -> Call {
+        let pages = a.pages();
+        let r = &mut self.random;
+        let number = |r: &mut Random, n: usize| match r.below(12) {
+            0 => n as u32,
+            1 => odd_word(n as u32, pages, r),
+            _ => r.below(n) as u32,
+        };
+        let few = r.percent(50);
+        let t = number(r, if few { 3 } else { 16 });
+        let page = number(r, pages);
+        let object = number(r, SLOTS * pages + 1);
+        let field = number(r, 8);
+        let word = match r.below(3) {
+            0 => odd_word(0, pages, r),
+            _ => number(r, SLOTS * pages + 1),
+        };
+        match r.below(34) {
+            0 if r.percent(10) => Call::Format,
+            0..=2 => Call::Begin(t),
+            3 | 4 => Call::Commit(t),
+            5 | 6 => Call::Abort(t),
+            7 | 8 => Call::LockRead(t, page),
+            9 | 10 => Call::LockWrite(t, page),
+            11 | 12 => Call::Read(t, object, if r.percent(80) { 8 } else { r.below(20) }),
+            13 | 14 => Call::Create(t, object),
+            15..=18 => Call::SetWord(t, object, field, word),
+            19..=21 => Call::Flush(t, page, image(r)),
+            22 | 23 => Call::Force,
+            24 | 25 => Call::StorePage(page),
+            26 => Call::EmptyLog,
+            27 => Call::StartPass,
+            28..=30 => Call::PassStep,
+            31 if r.percent(20) => Call::Reopen,
+            _ => Call::ReopenStep,
+        }
+    }
+
+    /// A call that the state takes, mostly.
+    fn led(&mut self, a: &Areas) -> Call {
+        let records = a.log.len() / RECORD_WORDS;
+        let active: Vec<u32> = (0..16).filter(|&t| a.work[ACTIVE] & bit(t) != 0).collect();
+        let room = records as isize - a.received_count() as isize - reserved(a) as isize;
+        if room < 2 && self.random.percent(60) {
+            return self.drain(a, &active);
+        }
+        let r = &mut self.random;
+        let pass = a.work[PHASE] != NO_PASS;
+        let begin = if active.len() < self.style.crowd { 12 } else { 1 };
+        let weights = [
+            begin,
+            if active.is_empty() { 0 } else { 100 },
+            8,                         // force
+            6,                         // store
+            2,                         // empty
+            if pass { 1 } else { 8 },  // start
+            if pass { 40 } else { 1 }, // step
+            1,                         // reopen, one time in six
+            1,                         // drain
+        ];
+        match r.weighted(&weights) {
+            0 => Call::Begin(r.below(self.style.crowd + 1) as u32 % 16),
+            1 => {
+                let t = r.pick(&active).unwrap();
+                self.of_transaction(a, t)
+            }
+            2 => {
+                if r.percent(30) {
+                    let unstable = a.received_count().saturating_sub(a.stable_count());
+                    self.burst = (Call::Force, unstable.saturating_sub(1));
+                }
+                Call::Force
+            }
+            3 => Call::StorePage(self.page()),
+            4 => Call::EmptyLog,
+            5 => Call::StartPass,
+            7 if r.below(6) == 0 => Call::Reopen,
+            7 => Call::Force,
+            8 => self.drain(a, &active),
+            _ => {
+                if r.percent(20) {
+                    self.burst = (Call::PassStep, r.below(20));
+                }
+                Call::PassStep
+            }
+        }
+    }
+
+    fn page(&mut self) -> u32 {
+        self.random.pick(&self.hot).unwrap()
+    }
+
+    fn of_transaction(&mut self, a: &Areas, t: u32) -> Call {
+        let written: Vec<u32> =
+            (0..a.pages() as u32).filter(|&p| a.get(Table::Writers, p as usize) & bit(t) != 0).collect();
+        let weights = match written.is_empty() {
+            true => [10, 40, 8, 1, 2, 1, 3, 2],
+            false => [4, 6, 12, 18, 34, 10, 5, 2],
+        };
+        match self.random.weighted(&weights) {
+            0 => Call::LockRead(t, self.page()),
+            1 => {
+                let others =
+                    |p: u32| (a.get(Table::Writers, p as usize) | a.get(Table::Readers, p as usize)) & !bit(t);
+                let open: Vec<u32> = self.hot.iter().copied().filter(|&p| others(p) == 0).collect();
+                match self.random.pick(&open) {
+                    Some(page) if self.random.percent(85) => Call::LockWrite(t, page),
+                    _ => Call::LockWrite(t, self.page()),
+                }
+            }
+            2 => {
+                let locked = |o: u32| {
+                    let p = page_of(o);
+                    (a.get(Table::Writers, p) | a.get(Table::Readers, p)) & bit(t) != 0
+                };
+                let object = self.known(a, t, locked).unwrap_or(ROOT);
+                let buffer = if self.random.percent(98) { 8 } else { self.random.below(12) };
+                Call::Read(t, object, buffer)
+            }
+            3 => {
+                let page = self.random.pick(&written).unwrap_or(0) as usize;
+                let full = self.random.below(16) == 0;
+                let free: Vec<u32> =
+                    (0..SLOTS).map(|s| object_at(page, s)).filter(|&o| occupied(&a.received, o) == full).collect();
+                Call::Create(t, self.random.pick(&free).unwrap_or(ROOT + 1))
+            }
+            4 => {
+                let writable = |o: u32| a.get(Table::Writers, page_of(o)) & bit(t) != 0;
+                let object = self.known(a, t, writable).unwrap_or(ROOT);
+                let field = if self.random.percent(75) { self.random.below(4) } else { self.random.below(8) };
+                let word = match self.random.below(10) {
+                    0..=2 => 0,
+                    3 => a.received[word_at(object, field)],
+                    4 if field < 4 && self.random.percent(40) => self.existing(a),
+                    _ if field < 4 => self.known(a, t, |_| true).unwrap_or(0),
+                    _ => self.random.word(),
+                };
+                Call::SetWord(t, object, field as u32, word)
+            }
+            5 => self.flush(a, t, &written),
+            6 if self.unflushed(a, t).is_some() && self.random.percent(85) => self.flush(a, t, &written),
+            6 => Call::Commit(t),
+            _ => Call::Abort(t),
+        }
+    }
+
+    fn unflushed(&mut self, a: &Areas, t: u32) -> Option<u32> {
+        (0..a.pages()).find(|&p| a.get(Table::Unflushed, p) & bit(t) != 0).map(|p| p as u32)
+    }
+
+    fn flush(&mut self, a: &Areas, t: u32, written: &[u32]) -> Call {
+        let page = match self.unflushed(a, t) {
+            Some(page) if self.random.percent(85) => page,
+            _ => self.random.pick(written).unwrap_or(0),
+        };
+        let image = if self.random.percent(88) { Image::Received } else { image(&mut self.random) };
+        Call::Flush(t, page, image)
+    }
+
+    /// An object that t knows.
+    fn known(&mut self, a: &Areas, t: u32, also: impl Fn(u32) -> bool) -> Option<u32> {
+        let pages = a.pages();
+        let table = &a.work[Table::Known.first(pages)..][..SLOTS * pages];
+        let known: Vec<u32> =
+            (1..=a.objects()).filter(|&o| table[o as usize - 1] & bit(t) != 0 && also(o)).collect();
+        self.random.pick(&known)
+    }
+
+    /// An object that exists, known or not.
+    fn existing(&mut self, a: &Areas) -> u32 {
+        let page = self.page() as usize;
+        let there: Vec<u32> =
+            (0..SLOTS).map(|s| object_at(page, s)).filter(|&o| occupied(&a.received, o)).collect();
+        self.random.pick(&there).unwrap_or(ROOT)
+    }
+
+    /// A call on the way to an empty log.
+    fn drain(&mut self, a: &Areas, active: &[u32]) -> Call {
+        if let Some(t) = self.random.pick(active) {
+            return match self.unflushed(a, t) {
+                Some(page) if self.random.percent(80) => Call::Flush(t, page, Image::Received),
+                Some(_) => Call::Abort(t),
+                None => Call::Commit(t),
+            };
+        }
+        if a.stable_count() < a.received_count() {
+            return Call::Force;
+        }
+        let unlike = (0..a.pages()).find(|&p| a.copies[page_range(p)] != a.stored[page_range(p)]);
+        match unlike {
+            Some(page) => Call::StorePage(page as u32),
+            None => Call::EmptyLog,
+        }
+    }
+}
+
+/// The largest value of a working word.
+fn bound(area: Area, index: usize, pages: usize) -> Option<u32> {
+    if area != Area::Work {
+        return None;
+    }
+    if index <= ACTIVE {
+        return Some(largest_single(index, pages));
+    }
+    let table = TABLES.into_iter().rfind(|table| table.first(pages) <= index);
+    table.map(Table::largest)
+}
+
+/// Flush images of every kind.
+fn image(r: &mut Random) -> Image {
+    match r.below(10) {
+        0 => Image::Copy,
+        1 => Image::Zeros,
+        2 => Image::Noise(r.next()),
+        3 => Image::Long(r.pick(&[0, 1, 128, 130, 258]).unwrap()),
+        4 => Image::Long(r.below(300)),
+        5 => Image::Changed(0, r.word() & 0xffff),
+        6 => Image::Changed(128, r.word()),
+        7 | 8 => Image::Changed(r.below(PAGE_WORDS), r.word() >> r.below(32)),
+        _ => Image::Received,
+    }
+}
+
+fn reserved(a: &Areas) -> usize {
+    let mut changes = [0usize; 16];
+    for i in 0..a.received_count().min(a.log.len() / RECORD_WORDS) {
+        let [kind, t, ..] = a.record(i);
+        match kind {
+            1 => changes[t as usize % 16] = 0,
+            2 | 3 => changes[t as usize % 16] += 1,
+            _ => {}
+        }
+    }
+    (0..16).filter(|&t| a.work[ACTIVE] & bit(t as u32) != 0).map(|t| 1 + changes[t]).sum()
+}
+
+/// What lists may hold.
+#[derive(Clone, Copy, PartialEq)]
+pub enum Scope {
+    /// Calls (some of wrong lengths) and cuts alone, from the formatted store, small sizes.
+    Legal,
+    /// Damage, rubbish and wrong lengths too.
+    Small,
+    /// Sizes up to P = 256 and L = 4096 too.
+    Large,
+}
+
+/// Size, style and length of a list.
+pub fn plan(random: &mut Random, scope: Scope) -> (usize, usize, Style, usize) {
+    let large = scope == Scope::Large;
+    let pages = match random.weighted(&[30, 25, 15, 15, 15]) {
+        0 => 1,
+        1 => 2,
+        2 => 3,
+        3 => 4,
+        _ if large => random.between(5, 256),
+        _ => random.between(5, 8),
+    };
+    let records = match random.weighted(&[2, 10, 28, 40, 20]) {
+        0 => 1,
+        1 => random.between(2, 9),
+        2 => random.between(10, 40),
+        3 => random.between(40, 90),
+        _ if large => random.between(100, 4096),
+        _ => random.between(90, 160),
+    };
+    let (pages, records) = match random.below(8) {
+        0 if large => (256, 4096),
+        1 if large => (256, records),
+        2 if large => (pages, 4096),
+        _ => (pages, records),
+    };
+    let crowd = random.pick(&[1, 1, 2, 2, 3, 3, 5, 16]).unwrap();
+    let plain = Style { cuts: 3, damage: 0, lengths: 4, wild: 40, crowd, filling: None };
+    let styles = match scope {
+        Scope::Legal => [45, 20, 0, 0, 0, 0, 0],
+        _ => [45, 20, 15, 15, 2, 10, 6],
+    };
+    let style = match random.weighted(&styles) {
+        0 => plain,
+        1 => Style { cuts: 12, wild: 20, ..plain },
+        2 => Style { damage: 150, ..plain },
+        3 => Style { wild: 250, lengths: 15, cuts: 1, damage: 80, filling: Some(Filling::Sound), ..plain },
+        4 => Style { wild: 600, filling: Some(Filling::Noise), ..plain },
+        5 => Style { filling: Some(Filling::Reopening), ..plain },
+        _ => Style { filling: Some(Filling::Damaged), ..plain },
+    };
+    let calls = match style.filling {
+        None if large => random.between(200, 3000),
+        None => random.between(100, 1200),
+        Some(Filling::Sound) => random.between(100, 900),
+        Some(_) => random.between(20, 300),
+    };
+    (pages, records, style, calls)
+}

@@ -1,0 +1,196 @@
+//! Compares the proved library with the model, the model with the Python oracle, and the tests
+//! with wrong behaviours put into the model.
+//!
+//!   compare examples
+//!   compare random [--seed N] [--calls N] [--large]
+//!   compare power  [--seed N] [--calls N] [--write FILE]
+//!   compare show FAULT [--seed N] [--calls N]
+//!   compare oracle PROGRAM [--seed N] [--calls N] [--large]
+//!   compare speed
+//!
+//! Exit status 0 where nothing differs (power: where every fault is noticed), else 1.
+
+mod actions;
+mod examples;
+mod generate;
+mod oracle;
+mod power;
+mod random;
+mod rubbish;
+mod run;
+mod sides;
+
+use std::process::exit;
+use std::time::Instant;
+
+use actions::List;
+use generate::{plan, Generator, Scope};
+use model::layout::*;
+use model::Fault;
+use random::Random;
+use run::{report, Pair, Tally};
+use sides::Kind;
+
+const MODEL: Kind = Kind::Model(Fault::None);
+
+struct Options {
+    seed: u64,
+    calls: u64,
+    large: bool,
+    write: Option<String>,
+    program: Option<String>,
+}
+
+impl Options {
+    fn scope(&self) -> Scope {
+        if self.large {
+            Scope::Large
+        } else {
+            Scope::Small
+        }
+    }
+}
+
+fn main() {
+    let words: Vec<String> = std::env::args().skip(1).collect();
+    let mode = words.first().cloned().unwrap_or_default();
+    let mut options = Options { seed: 1, calls: 1_000_000, large: false, write: None, program: None };
+    let mut rest = words.iter().skip(1);
+    while let Some(word) = rest.next() {
+        match word.as_str() {
+            "--large" => options.large = true,
+            "--seed" | "--calls" | "--write" => {
+                let value = rest.next().cloned().unwrap_or_else(usage);
+                match word.as_str() {
+                    "--write" => options.write = Some(value),
+                    "--seed" => options.seed = value.parse().unwrap_or_else(|_| usage()),
+                    _ => options.calls = value.parse().unwrap_or_else(|_| usage()),
+                }
+            }
+            _ => options.program = Some(word.clone()),
+        }
+    }
+    let good = match mode.as_str() {
+        "examples" => run_examples(),
+        "random" => run_random(&options),
+        "power" => power::run(options.seed, options.calls, options.write.as_deref()),
+        "show" => power::show(&options.program.unwrap_or_else(usage), options.seed, options.calls),
+        "oracle" => {
+            let scope = options.scope();
+            oracle::run(&options.program.unwrap_or_else(usage), options.seed, options.calls, scope)
+        }
+        "speed" => run_speed(),
+        _ => usage(),
+    };
+    exit(if good { 0 } else { 1 });
+}
+
+fn usage<T>() -> T {
+    eprintln!("usage: compare examples | random | power | show FAULT | oracle PROGRAM | speed [--seed N] [--calls N] [--large] [--write FILE]");
+    exit(2)
+}
+
+fn run_examples() -> bool {
+    match examples::run(Kind::PROVED, MODEL) {
+        Ok(calls) => {
+            println!("examples: {} against model, {calls} calls, no difference", Kind::PROVED.name());
+            true
+        }
+        Err(what) => {
+            println!("examples: {what}");
+            false
+        }
+    }
+}
+
+/// Runs random lists on both sides, led by the left one, until so many calls are made or the two
+/// differ: then the list and how many calls it took.
+pub fn random_lists(
+    left: Kind,
+    right: Kind,
+    seed: u64,
+    calls: u64,
+    scope: Scope,
+    tally: &mut Tally,
+) -> Option<(List, u64)> {
+    let mut lists = Random::new(seed);
+    let mut lead = Areas::default();
+    let mut made = 0;
+    while made < calls {
+        let mut random = Random::new(lists.next());
+        let (pages, records, style, length) = plan(&mut random, scope);
+        let mut generator = Generator::new(random, style, pages);
+        let mut pair = Pair::new(left, right, pages, records);
+        let mut list = List { pages, records, actions: Vec::new() };
+        while list.actions.len() < length && made < calls {
+            AREAS.iter().for_each(|&area| lead.of_mut(area).clone_from(pair.left.area(area)));
+            let action = generator.next(&lead);
+            let sweeping = lead.work[PHASE] == SWEEPING;
+            list.actions.push(action.clone());
+            made += u64::from(action.call().is_some());
+            match pair.step(&action) {
+                Ok(answer) => tally.note(&action, answer, sweeping),
+                Err(_) => return Some((list, made)),
+            }
+        }
+    }
+    None
+}
+
+fn run_random(options: &Options) -> bool {
+    if Kind::PROVED == MODEL {
+        println!("random: no library is linked (build with --features library); model against itself");
+    }
+    let mut tally = Tally::new();
+    let started = Instant::now();
+    let found = random_lists(Kind::PROVED, MODEL, options.seed, options.calls, options.scope(), &mut tally);
+    let seconds = started.elapsed().as_secs_f64();
+    tally.print();
+    println!("{:.1} s, {:.0} calls per second, seed {}", seconds, tally.calls as f64 / seconds, options.seed);
+    match found {
+        None => {
+            println!("random: {} against model, no difference", Kind::PROVED.name());
+            true
+        }
+        Some((list, calls)) => {
+            println!("after {calls} calls:");
+            report(&list, Kind::PROVED, MODEL);
+            false
+        }
+    }
+}
+
+/// Calls per second of each side alone, on the calls of the same random lists.
+fn run_speed() -> bool {
+    for kind in [Kind::PROVED, MODEL] {
+        for (pages, records) in [(4, 64), (256, 4096)] {
+            let mut random = Random::new(1);
+            let (_, _, style, _) = plan(&mut random, Scope::Legal);
+            let mut side = kind.make(pages, records);
+            let mut generator = Generator::new(random, style, pages);
+            let mut lead = Areas::zeros(pages, records);
+            let (mut calls, mut seconds) = (0u64, 0.0);
+            while calls < if pages == 4 { 100_000 } else { 4_000 } {
+                let action = generator.next(&lead);
+                if let actions::Action::Call(call) = &action {
+                    let image = match call {
+                        actions::Call::Flush(_, page, image) => image.words(&lead, *page),
+                        _ => Vec::new(),
+                    };
+                    let mut buffer = vec![0; 8];
+                    let started = Instant::now();
+                    side.perform(call, &image, &mut buffer);
+                    seconds += started.elapsed().as_secs_f64();
+                    calls += 1;
+                }
+                AREAS.iter().for_each(|&area| lead.of_mut(area).clone_from(side.area(area)));
+            }
+            println!(
+                "{}: P = {pages}, L = {records}: {:.0} calls per second",
+                kind.name(),
+                calls as f64 / seconds
+            );
+        }
+    }
+    true
+}

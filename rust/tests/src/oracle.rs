@@ -1,0 +1,288 @@
+//! The model against the Python oracle, over the oracle's line protocol: the answer of every call
+//! and, by `dumpall`, every word after it. The protocol cannot say a wrong length of an area or of
+//! a read buffer; such calls go with the right one.
+//!
+//! One known difference is kept out of the lists: the oracle has no bound on the pass's step number,
+//! which docs/LAYOUT.md ends at 17 x P (DECISIONS 35).
+
+use std::fmt::Write as _;
+use std::io::Write as _;
+use std::process::{Command, Stdio};
+use std::time::Instant;
+
+use model::layout::*;
+use model::{coded, Fault, Model};
+
+use crate::actions::*;
+use crate::generate::{plan, Generator, Scope};
+use crate::random::Random;
+use crate::rubbish::fill;
+use crate::run::Tally;
+use crate::sides::Side;
+
+const SINGLES: [&str; 6] = ["reopening", "reopening_page", "phase", "pass_page", "pass_steps", "active"];
+/// The protocol's tables: name, table, number of the first entry.
+const NAMES: [(&str, Table, usize); 7] = [
+    ("colour", Table::Colours, 1),
+    ("readers", Table::Readers, 0),
+    ("writers", Table::Writers, 0),
+    ("unflushed", Table::Unflushed, 0),
+    ("known", Table::Known, 1),
+    ("prt", Table::Pruned, 1),
+    ("cot", Table::Created, 1),
+];
+
+/// A list as the protocol writes it, and what the model says to each line.
+struct Script {
+    input: String,
+    /// The lines expected, each with the index of its action.
+    expected: Vec<(usize, String)>,
+}
+
+fn script(list: &List) -> Script {
+    let mut model = Model::new(list.pages, list.records);
+    let init = format!("init,{},{}\n", list.pages, list.records);
+    let mut script = Script { input: init.clone(), expected: Vec::new() };
+    model.format().unwrap();
+    for (i, action) in list.actions.iter().enumerate() {
+        match action {
+            Action::Call(Call::Format) | Action::Resized(_, _, Call::Format) => {
+                model.format().unwrap();
+                script.input.push_str(&init);
+            }
+            Action::Call(call) | Action::Resized(_, _, call) => script.call(i, &mut model, call),
+            Action::Cut => {
+                model.cut();
+                script.input.push_str("cut\n");
+                script.expected.push((i, "cut".to_string()));
+            }
+            Action::Poke(area, index, value) => script.poke(&mut model, *area, *index, *value),
+            Action::Fill(filling, seed) => {
+                let wanted = fill(*filling, *seed, list.pages, list.records);
+                for area in AREAS {
+                    for (index, &value) in wanted.of(area).iter().enumerate() {
+                        if model.areas.of(area)[index] != value {
+                            script.poke(&mut model, area, index, value);
+                        }
+                    }
+                }
+            }
+        }
+        script.input.push_str("dumpall\n");
+        script.dump(i, &model.areas);
+    }
+    script
+}
+
+impl Script {
+    fn call(&mut self, i: usize, model: &mut Model, call: &Call) {
+        let mut buffer = [0; 8];
+        let mut image = Vec::new();
+        match call {
+            Call::Read(t, object, _) => writeln!(self.input, "readw,{t},{object}").unwrap(),
+            Call::Flush(t, page, kind) => {
+                image = kind.words(&model.areas, *page);
+                write!(self.input, "flushi,{t},{page}").unwrap();
+                image.iter().for_each(|word| write!(self.input, ",{word}").unwrap());
+                self.input.push('\n');
+            }
+            _ => writeln!(self.input, "{call}").unwrap(),
+        }
+        let answer = model.perform(call, &image, &mut buffer).unwrap();
+        if *call == Call::PassStep && model.areas.work[PASS_STEP] == 17 * model.areas.pages() as u32 {
+            // the oracle counts on past the bound of DECISIONS 35
+            writeln!(self.input, "poke,W,pass_steps,0,{}", model.areas.work[PASS_STEP]).unwrap();
+        }
+        let (number, value) = (answer >> 32, answer as u32);
+        self.expected.push((
+            i,
+            match call {
+                Call::Read(..) if number == 0 => {
+                    let words: Vec<String> = buffer.iter().map(u32::to_string).collect();
+                    format!("0,{}", words.join(","))
+                }
+                Call::Read(..) => number.to_string(),
+                _ => format!("{number},{value}"),
+            },
+        ));
+    }
+
+    fn poke(&mut self, model: &mut Model, area: Area, index: usize, value: u32) {
+        let pages = model.areas.pages();
+        model.areas.of_mut(area)[index] = value;
+        let place = match area {
+            Area::Stored => format!("S,{index}"),
+            Area::Copies => format!("C,{index}"),
+            Area::Received => format!("R,{index}"),
+            Area::Log => format!("LOG,{index}"),
+            Area::Counts => format!("{},0", ["RC", "SC"][index]),
+            Area::Work if index < SINGLES.len() => format!("W,{},0", SINGLES[index]),
+            Area::Work => {
+                let (name, table, from) = NAMES
+                    .into_iter()
+                    .find(|(_, table, _)| {
+                        (table.first(pages)..table.first(pages) + table.len(pages)).contains(&index)
+                    })
+                    .unwrap();
+                format!("W,{name},{}", index - table.first(pages) + from)
+            }
+        };
+        writeln!(self.input, "poke,{place},{value}").unwrap();
+    }
+
+    fn dump(&mut self, i: usize, a: &Areas) {
+        let sparse = |name: &str, words: &[u32], from: usize| {
+            let shown: Vec<String> = (0..words.len())
+                .filter(|&k| words[k] != 0)
+                .map(|k| format!("{}={}", k + from, words[k]))
+                .collect();
+            format!("{name}:{}", shown.join(" "))
+        };
+        let mut lines = vec![
+            sparse("S", &a.stored, 0),
+            sparse("C", &a.copies, 0),
+            sparse("R", &a.received, 0),
+            sparse("LOG", &a.log, 0),
+            format!("RC:{}", a.counts[0]),
+            format!("SC:{}", a.counts[1]),
+        ];
+        lines.extend(SINGLES.iter().enumerate().map(|(k, name)| format!("{name}:{}", a.work[k])));
+        for (name, table, from) in NAMES {
+            let first = table.first(a.pages());
+            lines.push(sparse(name, &a.work[first..first + table.len(a.pages())], from));
+        }
+        self.expected.extend(lines.into_iter().map(|line| (i, line)));
+    }
+}
+
+/// The oracle's answer to a batch of lists, by line.
+fn ask(program: &str, input: String) -> Vec<String> {
+    let mut child = Command::new("python3")
+        .arg(program)
+        .stdin(Stdio::piped())
+        .stdout(Stdio::piped())
+        .spawn()
+        .expect("python3 runs");
+    let mut pipe = child.stdin.take().unwrap();
+    let writer = std::thread::spawn(move || pipe.write_all(input.as_bytes()));
+    let output = child.wait_with_output().expect("the oracle ends");
+    let _ = writer.join();
+    String::from_utf8_lossy(&output.stdout).lines().map(str::to_string).collect()
+}
+
+/// Where the oracle and the model differ: the list, the action, the two lines.
+fn differs(program: &str, lists: &[List]) -> Option<(usize, usize, String)> {
+    let scripts: Vec<Script> = lists.iter().map(script).collect();
+    let input: String = scripts.iter().map(|script| script.input.as_str()).collect();
+    let mut said = ask(program, input).into_iter();
+    for (n, script) in scripts.iter().enumerate() {
+        for (action, line) in &script.expected {
+            let other = said.next().unwrap_or_else(|| "nothing".to_string());
+            if *line != other {
+                return Some((n, *action, format!("model   {line}\n  oracle  {other}")));
+            }
+        }
+    }
+    None
+}
+
+fn shrink(program: &str, list: &List) -> (List, String) {
+    let mut best = list.clone();
+    let mut what = String::new();
+    let mut run = best.actions.len();
+    while run > 0 {
+        let mut at = 0;
+        while at < best.actions.len() {
+            let mut tried = best.clone();
+            if run < best.actions.len() {
+                tried.actions.drain(at..(at + run).min(best.actions.len()));
+            }
+            match differs(program, std::slice::from_ref(&tried)) {
+                Some((_, action, lines)) => {
+                    tried.actions.truncate(action + 1);
+                    let same = tried.actions.len() == best.actions.len();
+                    (best, what) = (tried, lines);
+                    if same {
+                        break;
+                    }
+                }
+                None => at += run,
+            }
+        }
+        run /= 2;
+    }
+    (best, what)
+}
+
+pub fn run(program: &str, seed: u64, calls: u64, scope: Scope) -> bool {
+    let started = Instant::now();
+    let mut seeds = Random::new(seed);
+    let mut tally = Tally::new();
+    while tally.calls < calls {
+        let mut lists = Vec::new();
+        let batch = if scope == Scope::Large { 200 } else { 4000 };
+        let until = (tally.calls + batch).min(calls);
+        while tally.calls < until {
+            let mut random = Random::new(seeds.next());
+            let (pages, records, style, length) = plan(&mut random, scope);
+            let mut generator = Generator::new(random, style, pages);
+            let mut model = Model { fault: Fault::None, ..Model::new(pages, records) };
+            let mut list = List { pages, records, actions: vec![Action::Call(Call::Format)] };
+            model.format().unwrap();
+            while list.actions.len() < length && tally.calls < until {
+                let sweeping = model.areas.work[PHASE] == SWEEPING;
+                let action = sayable(generator.next(&model.areas), pages);
+                let answer = follow(&mut model, &action);
+                tally.note(&action, answer, sweeping);
+                list.actions.push(action);
+            }
+            lists.push(list);
+        }
+        if let Some((n, _, lines)) = differs(program, &lists) {
+            println!("DIFFERENCE between model and oracle:\n  {lines}");
+            let (short, what) = shrink(program, &lists[n]);
+            println!("shrunk list, {short}\n  {what}");
+            return false;
+        }
+    }
+    let seconds = started.elapsed().as_secs_f64();
+    tally.print();
+    println!("{seconds:.1} s, {:.0} calls per second, seed {seed}", tally.calls as f64 / seconds);
+    println!("oracle: model against {program}, no difference");
+    true
+}
+
+/// The action as the protocol can say it. The oracle has no bound on the step number (DECISIONS 35
+/// has one), so that one is not damaged above it.
+fn sayable(action: Action, pages: usize) -> Action {
+    match action {
+        Action::Call(Call::Read(t, object, _)) | Action::Resized(_, _, Call::Read(t, object, _)) => {
+            Action::Call(Call::Read(t, object, 8))
+        }
+        Action::Resized(_, _, call) => Action::Call(call),
+        Action::Poke(Area::Work, PASS_STEP, value) => {
+            Action::Poke(Area::Work, PASS_STEP, value % (17 * pages as u32 + 1))
+        }
+        action => action,
+    }
+}
+
+/// The action on the model alone.
+fn follow(model: &mut Model, action: &Action) -> u64 {
+    match action {
+        Action::Call(call) | Action::Resized(_, _, call) => {
+            let image = match call {
+                Call::Flush(_, page, kind) => kind.words(&model.areas, *page),
+                _ => Vec::new(),
+            };
+            return model.perform(call, &image, &mut [0; 8]).unwrap_or(coded(Ok(0)));
+        }
+        Action::Cut => model.cut(),
+        Action::Poke(area, index, value) => model.areas.of_mut(*area)[*index] = *value,
+        Action::Fill(filling, seed) => {
+            let pages = model.areas.pages();
+            model.areas = fill(*filling, *seed, pages, model.areas.log.len() / RECORD_WORDS);
+        }
+    }
+    0
+}

@@ -1,0 +1,72 @@
+//! The power of the tests: each fault put into the model must be noticed.
+
+use std::fmt::Write;
+
+use model::faults::FAULTS;
+use model::Fault;
+
+use crate::generate::Scope;
+use crate::run::{report, Tally};
+use crate::sides::Kind;
+use crate::{examples, random_lists};
+
+/// The side that a fault is held against. A library without reopening takes what the other side
+/// made of it, and would not notice a fault there.
+#[cfg(feature = "reopening")]
+pub const UNCHANGED: Kind = Kind::PROVED;
+#[cfg(not(feature = "reopening"))]
+pub const UNCHANGED: Kind = Kind::Model(Fault::None);
+
+/// After how many calls of random lists the fault is noticed.
+fn noticed(fault: Fault, seed: u64, calls: u64, scope: Scope) -> Option<u64> {
+    let faulty = Kind::Model(fault);
+    random_lists(UNCHANGED, faulty, seed, calls, scope, &mut Tally::new()).map(|(_, calls)| calls)
+}
+
+/// Prints how the named fault shows: the shrunk list and the least state.
+pub fn show(name: &str, seed: u64, calls: u64) -> bool {
+    std::panic::set_hook(Box::new(|_| {}));
+    let Some(&(fault, what)) = FAULTS.iter().find(|(fault, _)| format!("{fault:?}") == name) else {
+        println!("no fault is named {name}");
+        return false;
+    };
+    println!("{fault:?}: {what}");
+    let faulty = Kind::Model(fault);
+    match random_lists(UNCHANGED, faulty, seed, calls, Scope::Small, &mut Tally::new()) {
+        Some((list, _)) => report(&list, UNCHANGED, faulty),
+        None => println!("not noticed in {calls} calls"),
+    }
+    true
+}
+
+pub fn run(seed: u64, calls: u64, write: Option<&str>) -> bool {
+    std::panic::set_hook(Box::new(|_| {})); // a faulty model may panic: that is noticed too
+    let mut table = String::new();
+    let mut missed = 0;
+    for &(fault, what) in FAULTS {
+        let by_example = examples::run(UNCHANGED, Kind::Model(fault)).is_err();
+        let by_calls = noticed(fault, seed, calls / 10, Scope::Legal);
+        let by_all = noticed(fault, seed, calls, Scope::Small);
+        missed += u32::from(by_all.is_none());
+        let example = if by_example { "yes" } else { "no" };
+        let [legal, all] = [by_calls, by_all].map(|n| n.map_or("no".to_string(), |n| n.to_string()));
+        println!("{all:>8} {legal:>8} {example:>4}  {fault:?}: {what}");
+        writeln!(table, "| `{fault:?}` | {what} | {example} | {legal} | {all} |").unwrap();
+    }
+    println!("power: {} faults against {}, {missed} not noticed", FAULTS.len(), UNCHANGED.name());
+    if let Some(path) = write {
+        let text = format!(
+            include_str!("tests.md"),
+            seed = seed,
+            faults = FAULTS.len(),
+            calls = calls,
+            tenth = calls / 10,
+            table = table.trim_end()
+        );
+        if let Err(error) = std::fs::write(path, text) {
+            println!("{path}: {error}");
+            return false;
+        }
+    }
+    missed == 0
+}

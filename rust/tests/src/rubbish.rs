@@ -1,0 +1,273 @@
+//! Lent areas in states that no calls lead to.
+
+use model::layout::*;
+
+use crate::actions::Filling;
+use crate::random::Random;
+
+pub fn fill(filling: Filling, seed: u64, pages: usize, records: usize) -> Areas {
+    let mut random = Random::new(seed);
+    let mut areas = Areas::zeros(pages, records);
+    match filling {
+        Filling::Noise => noise(&mut areas, &mut random),
+        Filling::Sound => sound(&mut areas, &mut random),
+        Filling::Reopening => reopening(&mut areas, &mut random),
+        Filling::Damaged => {
+            reopening(&mut areas, &mut random);
+            damage_one(&mut areas, &mut random);
+        }
+    }
+    areas
+}
+
+fn noise(areas: &mut Areas, random: &mut Random) {
+    let reopening_word = random.below(5) as u32;
+    for area in AREAS {
+        areas.of_mut(area).fill_with(|| random.word());
+    }
+    areas.work[REOPENING] = reopening_word;
+    if random.percent(50) {
+        let records = areas.log.len() / RECORD_WORDS;
+        areas.counts[STABLE_COUNT] = random.below(records + 2) as u32;
+    }
+}
+
+/// A word where each bit below 16 is set one time in n.
+fn mask(random: &mut Random, n: usize) -> u32 {
+    (0..16).filter(|_| random.below(n) == 0).map(bit).sum()
+}
+
+fn sound_pages(area: &mut [u32], pages: usize, random: &mut Random) {
+    let objects = SLOTS * pages;
+    let thin = random.between(1, 4);
+    for page in 0..pages {
+        let map = mask(random, thin) | u32::from(page == 0);
+        area[map_at(page)] = map;
+        for slot in (0..SLOTS).filter(|&slot| map & bit(slot as u32) != 0) {
+            let at = word_at(object_at(page, slot), 0);
+            for field in 0..8 {
+                area[at + field] = match random.below(3) {
+                    0 => 0,
+                    _ if field < 4 => random.below(objects + 1) as u32,
+                    1 => random.below(3) as u32,
+                    _ => random.word(),
+                };
+            }
+        }
+    }
+}
+
+fn sound_record(pages: usize, random: &mut Random) -> [u32; 6] {
+    let objects = SLOTS * pages;
+    let transactions = if random.percent(70) { 3 } else { 16 };
+    let t = random.below(transactions) as u32;
+    let object = random.between(2, objects) as u32;
+    match random.weighted(&[14, 16, 40, 8, 6, 8, 8]) {
+        0 => [1, t, 0, 0, 0, 0],
+        1 => [2, t, object, 0, 0, 0],
+        2 => set_record(t, random.between(1, objects) as u32, pages, random),
+        3 => [4, t, 0, 0, 0, 0],
+        4 => [5, t, 0, 0, 0, 0],
+        5 => [6, t, object, 0, 0, 0],
+        _ => sweep_record(pages, random),
+    }
+}
+
+fn set_record(t: u32, object: u32, pages: usize, random: &mut Random) -> [u32; 6] {
+    let field = random.below(8) as u32;
+    let mut word = || match field {
+        0..=3 => random.below(SLOTS * pages + 1) as u32,
+        _ => random.word() >> random.below(32),
+    };
+    [3, t, object, field, word(), word()]
+}
+
+fn sweep_record(pages: usize, random: &mut Random) -> [u32; 6] {
+    let page = random.below(pages) as u32;
+    let thin = random.between(1, 8);
+    let map = mask(random, thin);
+    [7, 0, page, 0, 0, if page == 0 { map & !1 } else { map }]
+}
+
+fn sound(areas: &mut Areas, random: &mut Random) {
+    let pages = areas.pages();
+    let records = areas.log.len() / RECORD_WORDS;
+    sound_pages(&mut areas.received, pages, random);
+    match random.below(3) {
+        0 => sound_pages(&mut areas.copies, pages, random),
+        _ => areas.copies.clone_from(&areas.received),
+    }
+    match random.below(3) {
+        0 => areas.stored.fill_with(|| random.word()),
+        1 => sound_pages(&mut areas.stored, pages, random),
+        _ => areas.stored.clone_from(&areas.copies),
+    }
+    // many calls need room: the log is full now and then only
+    let received = match random.below(4) {
+        0 => records,
+        1 => records / 2,
+        _ => random.below(records.min(40) + 1),
+    };
+    for i in 0..records {
+        let record = sound_record(pages, random);
+        if i < received || random.percent(50) {
+            areas.log[RECORD_WORDS * i..][..RECORD_WORDS].copy_from_slice(&record);
+        }
+    }
+    areas.counts[RECEIVED_COUNT] = received as u32;
+    areas.counts[STABLE_COUNT] =
+        if random.percent(40) { received as u32 } else { random.below(received + 1) as u32 };
+
+    // few transactions meet often
+    let among = random.pick(&[0b11, 0b111, 0xffff]).unwrap();
+    let thins = [1, 2, 3, 8, 40];
+    for word in REOPENING..ACTIVE {
+        areas.work[word] = random.below(largest_single(word, pages) as usize + 1) as u32;
+    }
+    areas.work[REOPENING] = if random.percent(90) { 2 } else { 1 };
+    let thin = random.pick(&thins).unwrap();
+    areas.work[ACTIVE] = mask(random, thin) & among;
+    for table in TABLES {
+        let thin = random.pick(&thins).unwrap();
+        let zero = random.percent(25);
+        for i in 0..table.len(pages) {
+            let word = match table {
+                _ if zero => 0,
+                Table::Colours => random.below(3) as u32,
+                Table::Pruned | Table::Created if random.percent(10) => mask(random, thin) & among | FLAG,
+                _ => mask(random, thin) & among,
+            };
+            areas.work[table.first(pages) + i] = word;
+        }
+    }
+    // pages with one holder, of either lock or both
+    let holders: Vec<u32> = (0..16).filter(|&t| areas.work[ACTIVE] & bit(t) != 0).collect();
+    for page in 0..pages {
+        if let (Some(t), true) = (random.pick(&holders), random.percent(40)) {
+            let locks = random.between(1, 3) as u32;
+            *areas.page_table(Table::Readers, page) = bit(t) * (locks & 1);
+            *areas.page_table(Table::Writers, page) = bit(t) * (locks >> 1);
+        }
+    }
+}
+
+/// Stored pages and a stable log in the order that calls make, mostly with sets of occupied slots,
+/// so that the replay goes through. Some logs have one record out of order, some have records of
+/// all kinds anywhere.
+fn reopening(areas: &mut Areas, random: &mut Random) {
+    let pages = areas.pages();
+    let objects = SLOTS * pages;
+    let records = areas.log.len() / RECORD_WORDS;
+    noise(areas, random);
+    areas.stored.fill(0);
+    sound_pages(&mut areas.stored, pages, random);
+    let stable = random.below(records.min(400) + 1);
+    areas.counts[STABLE_COUNT] = stable as u32;
+
+    let wild = random.pick(&[0, 0, 0, 0, 2, 30]).unwrap();
+    let stray = if random.percent(25) { random.below(stable + 1) } else { stable };
+    let mut shown = areas.stored.clone();
+    let mut running: u32 = 0;
+    for i in 0..stable {
+        let begun: Vec<u32> = (0..16).filter(|&t| running & bit(t) != 0).collect();
+        let numbers = if i % 2 == 0 { 4 } else { 16 };
+        let other = random.below(numbers) as u32;
+        let record = match random.pick(&begun) {
+            Some(t) => {
+                let object = random.between(2, objects) as u32;
+                let full: Vec<u32> = (1..=objects as u32).filter(|&o| occupied(&shown, o)).collect();
+                let full = random.pick(&full).unwrap_or(1);
+                match random.weighted(&[10, 20, 45, 8, 5, 5, 5]) {
+                    0 if running & bit(other) == 0 => [1, other, 0, 0, 0, 0],
+                    1 => [2, t, object, 0, 0, 0],
+                    3 => [4, t, 0, 0, 0, 0],
+                    4 => [5, t, 0, 0, 0, 0],
+                    5 => [6, t, object, 0, 0, 0],
+                    6 => sweep_record(pages, random),
+                    _ => {
+                        let full = if random.below(60) == 0 { object } else { full };
+                        let mut record = set_record(t, full, pages, random);
+                        if random.percent(80) {
+                            record[4] = shown[word_at(full, record[3] as usize)];
+                        }
+                        record
+                    }
+                }
+            }
+            None if random.percent(10) => sweep_record(pages, random),
+            None => [1, other, 0, 0, 0, 0],
+        };
+        let record = match i {
+            _ if random.percent(wild) => sound_record(pages, random),
+            _ if i == stray => out_of_order(&begun, other, random),
+            _ => record,
+        };
+        match record[0] {
+            1 => running |= bit(record[1]),
+            4 | 5 => running &= !bit(record[1]),
+            _ => {}
+        }
+        model::recover::take_effect(&mut shown, record);
+        areas.log[RECORD_WORDS * i..][..RECORD_WORDS].copy_from_slice(&record);
+    }
+}
+
+/// A begin of one begun and not ended, or a record of one not begun or already ended.
+fn out_of_order(begun: &[u32], t: u32, random: &mut Random) -> [u32; 6] {
+    if random.percent(50) || begun.contains(&t) {
+        return [1, random.pick(begun).unwrap_or(t), 0, 0, 0, 0];
+    }
+    match random.between(2, 6) as u32 {
+        3 => [3, t, ROOT, 4, 0, 0],
+        kind @ (2 | 6) => [kind, t, random.between(2, 16) as u32, 0, 0, 0],
+        kind => [kind, t, 0, 0, 0, 0],
+    }
+}
+
+fn damage_one(areas: &mut Areas, random: &mut Random) {
+    let stable = areas.stable_count();
+    if random.percent(60) && stable > 0 {
+        let at = random.below(RECORD_WORDS * stable);
+        areas.log[at] = odd_word(areas.log[at], areas.pages(), random);
+    } else {
+        let at = random.below(areas.stored.len());
+        areas.stored[at] = odd_word(areas.stored[at], areas.pages(), random);
+    }
+}
+
+/// A word at or about a bound, or the old one with a bit turned.
+pub fn odd_word(old: u32, pages: usize, random: &mut Random) -> u32 {
+    let p = pages as u32;
+    let bounds = [
+        0,
+        1,
+        2,
+        3,
+        4,
+        5,
+        6,
+        7,
+        8,
+        15,
+        16,
+        p - 1,
+        p,
+        p + 1,
+        16 * p - 1,
+        16 * p,
+        16 * p + 1,
+        17 * p,
+        17 * p + 1,
+        65535,
+        65536,
+        131071,
+        131072,
+        u32::MAX,
+    ];
+    match random.below(4) {
+        0 => old ^ bit(random.below(32) as u32),
+        1 => random.word(),
+        2 => old.wrapping_add(if random.percent(50) { 1 } else { u32::MAX }),
+        _ => random.pick(&bounds).unwrap(),
+    }
+}

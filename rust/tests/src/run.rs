@@ -1,0 +1,266 @@
+//! Runs actions on two sides and compares every answer and every lent word after each; shrinks a
+//! list on which they differ.
+
+use std::panic::{catch_unwind, AssertUnwindSafe};
+
+use model::layout::*;
+use model::{Fault, Model};
+
+use crate::actions::*;
+use crate::rubbish::fill;
+use crate::sides::*;
+
+pub struct Pair {
+    pub left: Box<dyn Side>,
+    pub right: Box<dyn Side>,
+    pages: usize,
+    records: usize,
+}
+
+/// The answers that a run saw, by call and answer number (16 for others), and what it reached.
+#[derive(Clone)]
+pub struct Tally {
+    pub answers: [[u64; 17]; 17],
+    pub calls: u64,
+    pub cuts: u64,
+    pub freed: u64,
+}
+
+impl Tally {
+    pub fn new() -> Tally {
+        Tally { answers: [[0; 17]; 17], calls: 0, cuts: 0, freed: 0 }
+    }
+
+    pub fn note(&mut self, action: &Action, answer: u64, sweeping: bool) {
+        if let Some(call) = action.call() {
+            self.calls += 1;
+            let number = ((answer >> 32) as usize).min(16);
+            self.answers[call.kind()][number] += 1;
+            if number == 0 && sweeping && *call == Call::PassStep {
+                self.freed += answer & 0xffff_ffff;
+            }
+        }
+        if *action == Action::Cut {
+            self.cuts += 1;
+        }
+    }
+
+    pub fn print(&self) {
+        print!("{:>8}", "call");
+        (0..15).for_each(|n| print!("{n:>8}"));
+        println!();
+        for (name, row) in CALLS.iter().zip(&self.answers) {
+            print!("{name:>8}");
+            row[..15].iter().for_each(|n| print!("{n:>8}"));
+            println!();
+        }
+        println!("{} calls, {} cuts, {} slots freed", self.calls, self.cuts, self.freed);
+    }
+}
+
+fn show(answer: u64) -> String {
+    format!("{},{}", answer >> 32, answer & 0xffff_ffff)
+}
+
+impl Pair {
+    pub fn new(left: Kind, right: Kind, pages: usize, records: usize) -> Pair {
+        Pair { left: left.make(pages, records), right: right.make(pages, records), pages, records }
+    }
+
+    /// What the left side's areas hold.
+    pub fn areas(&self) -> Areas {
+        let mut areas = Areas::default();
+        AREAS.iter().for_each(|&area| areas.of_mut(area).clone_from(self.left.area(area)));
+        areas
+    }
+
+    /// Does the action on both sides: the left side's answer, or what differs.
+    pub fn step(&mut self, action: &Action) -> Result<u64, String> {
+        match action {
+            Action::Call(call) => self.call(call),
+            Action::Resized(area, len, call) => {
+                let [left, right] = [&mut self.left, &mut self.right].map(|side| {
+                    let words = side.area_mut(*area);
+                    let tail = words.get(*len..).unwrap_or(&[]).to_vec();
+                    let before = words.len();
+                    words.resize(*len, 0);
+                    (before, tail)
+                });
+                let answer = self.call(call)?;
+                for (side, (before, tail)) in [(&mut self.left, left), (&mut self.right, right)] {
+                    let words = side.area_mut(*area);
+                    words.extend(tail);
+                    words.resize(before, 0);
+                }
+                self.compare().map(|_| answer)
+            }
+            Action::Cut => {
+                self.left.cut();
+                self.right.cut();
+                self.compare().map(|_| 0)
+            }
+            Action::Poke(area, index, value) => {
+                for side in [&mut self.left, &mut self.right] {
+                    if let Some(word) = side.area_mut(*area).get_mut(*index) {
+                        *word = *value;
+                    }
+                }
+                Ok(0)
+            }
+            Action::Fill(filling, seed) => {
+                let areas = fill(*filling, *seed, self.pages, self.records);
+                self.load(&areas);
+                Ok(0)
+            }
+        }
+    }
+
+    pub fn load(&mut self, areas: &Areas) {
+        for side in [&mut self.left, &mut self.right] {
+            AREAS.iter().for_each(|&area| side.area_mut(area).clone_from(areas.of(area)));
+        }
+    }
+
+    fn call(&mut self, call: &Call) -> Result<u64, String> {
+        let image = match call {
+            Call::Flush(_, page, Image::Received)
+                if self.left.area(Area::Received).len() > PAGE_WORDS * *page as usize + 128 =>
+            {
+                self.left.area(Area::Received)[page_range(*page as usize)].to_vec()
+            }
+            Call::Flush(_, page, image) => image.words(&self.areas(), *page),
+            _ => Vec::new(),
+        };
+        let words = if let Call::Read(_, _, n) = call { *n } else { 0 };
+        let mut buffers = [0xb0f0u32, 0xb0f0].map(|w| (0..words as u32).map(|i| w << 16 | i).collect::<Vec<_>>());
+        let [left_buffer, right_buffer] = &mut buffers;
+
+        let right = catch_unwind(AssertUnwindSafe(|| self.right.perform(call, &image, right_buffer)));
+        let Ok(right) = right else { return Err("the right side panics".to_string()) };
+        let left = self.left.perform(call, &image, left_buffer);
+        let (Some(left), Some(right)) = (left, right) else {
+            // a call that one side does not have yet: it takes what the other made of it
+            let (from, to, answer) = match left {
+                None => (&self.right, &mut self.left, right),
+                Some(_) => (&self.left, &mut self.right, left),
+            };
+            AREAS.iter().for_each(|&area| to.area_mut(area).clone_from(from.area(area)));
+            return Ok(answer.unwrap_or(0));
+        };
+        if left != right {
+            return Err(format!("answers {} and {}", show(left), show(right)));
+        }
+        if buffers[0] != buffers[1] {
+            return Err(format!("buffers {:?} and {:?}", buffers[0], buffers[1]));
+        }
+        self.compare().map(|_| left)
+    }
+
+    fn compare(&self) -> Result<(), String> {
+        for area in AREAS {
+            let (left, right) = (self.left.area(area), self.right.area(area));
+            if left == right {
+                continue;
+            }
+            if left.len() != right.len() {
+                return Err(format!("{area:?} has {} and {} words", left.len(), right.len()));
+            }
+            let at = (0..left.len()).find(|&i| left[i] != right[i]).unwrap();
+            return Err(format!("{}: {} and {}", place(area, at, self.pages), left[at], right[at]));
+        }
+        Ok(())
+    }
+}
+
+/// Where two sides differ on a list: the action's index and what differs.
+pub fn differs(list: &List, left: Kind, right: Kind) -> Option<(usize, String)> {
+    let mut pair = Pair::new(left, right, list.pages, list.records);
+    list.actions.iter().enumerate().find_map(|(i, action)| pair.step(action).err().map(|what| (i, what)))
+}
+
+/// A shorter list on which the two still differ: runs of actions are left out, long runs first.
+pub fn shrink(list: &List, left: Kind, right: Kind) -> List {
+    let mut best = list.clone();
+    if let Some((i, _)) = differs(&best, left, right) {
+        best.actions.truncate(i + 1);
+    }
+    let started = std::time::Instant::now();
+    let mut run = best.actions.len().div_ceil(2);
+    while run > 0 {
+        let mut at = 0;
+        let mut shorter = false;
+        while at < best.actions.len() && started.elapsed().as_secs() < 20 {
+            let mut tried = best.clone();
+            tried.actions.drain(at..(at + run).min(best.actions.len()));
+            match differs(&tried, left, right) {
+                Some((i, _)) => {
+                    tried.actions.truncate(i + 1);
+                    best = tried;
+                    shorter = true;
+                }
+                None => at += run,
+            }
+        }
+        if run > 1 || !shorter {
+            run /= 2;
+        }
+    }
+    best
+}
+
+/// The state before the last action of a list, made as like the formatted store as the difference
+/// allows: the words that differ from it, as pokes, and the last action.
+pub fn distil(list: &List, left: Kind, right: Kind) -> Option<List> {
+    let (last, before) = list.actions.split_last()?;
+    let mut pair = Pair::new(left, right, list.pages, list.records);
+    for action in before {
+        pair.step(action).ok()?;
+    }
+    let mut state = pair.areas();
+    for i in (0..list.records).rev() {
+        let fewer = without_record(&state, i);
+        pair.load(&fewer);
+        if fewer != state && pair.step(last).is_err() {
+            state = fewer;
+        }
+    }
+    let mut formatted = Model::new(list.pages, list.records);
+    formatted.fault = Fault::None;
+    formatted.format().ok()?;
+    let formatted = formatted.areas;
+    let mut pokes: Vec<Action> = Vec::new();
+    for area in AREAS {
+        let (now, then) = (state.of(area), formatted.of(area));
+        pokes.extend((0..now.len()).filter(|&i| now[i] != then[i]).map(|i| Action::Poke(area, i, now[i])));
+    }
+    let mut actions = vec![Action::Call(Call::Format)];
+    actions.extend(pokes);
+    actions.push(last.clone());
+    let whole = List { pages: list.pages, records: list.records, actions };
+    differs(&whole, left, right)?;
+    Some(shrink(&whole, left, right))
+}
+
+/// The areas with one log record fewer.
+fn without_record(areas: &Areas, i: usize) -> Areas {
+    let mut fewer = areas.clone();
+    fewer.log.drain(RECORD_WORDS * i..RECORD_WORDS * (i + 1));
+    fewer.log.extend([0; RECORD_WORDS]);
+    for count in &mut fewer.counts {
+        if *count as usize > i {
+            *count -= 1;
+        }
+    }
+    fewer
+}
+
+/// Prints a difference: the shrunk list, and the least state for its last call.
+pub fn report(list: &List, left: Kind, right: Kind) {
+    let short = shrink(list, left, right);
+    let what = differs(&short, left, right).map_or(String::new(), |(_, what)| what);
+    println!("DIFFERENCE between {} and {}: {what}", left.name(), right.name());
+    println!("shrunk list, {short}");
+    if let Some(least) = distil(&short, left, right) {
+        println!("the last call alone, {least}");
+    }
+}
