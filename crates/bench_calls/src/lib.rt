@@ -8,6 +8,13 @@ ghost use Rattle.bench_run.specs.Bench.{pageSent, benchCall};
 use areas::Answer;
 use areas::Refusal;
 use bench_lines::Command;
+use locks::lock_read;
+use locks::lock_write;
+use objects::set_word;
+use passes::pass_step;
+use passes::start_pass;
+use stability::empty_log;
+use stability::store_page;
 
 // Word i of a, 0 past the end.
 fn word_or_zero(a: &[u32], i: usize) -> u32
@@ -88,46 +95,19 @@ pub fn serve(
         Command::Begin(t) => transactions::begin(stored, copies, received, log, counts, work, t),
         Command::Commit(t) => transactions::commit(stored, copies, received, log, counts, work, t),
         Command::Abort(t) => aborts::abort(stored, copies, received, log, counts, work, t),
-        Command::LockRead(t, p) => locks::lock_read(
-            stored,
-            copies,
-            received,
-            log,
-            counts,
-            work,
-            t,
-            p,
-        ),
-        Command::LockWrite(t, p) => locks::lock_write(
-            stored,
-            copies,
-            received,
-            log,
-            counts,
-            work,
-            t,
-            p,
-        ),
+        Command::LockRead(t, p) => lock_read(stored, copies, received, log, counts, work, t, p),
+        Command::LockWrite(t, p) => lock_write(stored, copies, received, log, counts, work, t, p),
         Command::Flush(t, p) => flush_received(stored, copies, received, log, counts, work, t, p),
         Command::Read(t, o) => read_object(stored, copies, received, log, counts, work, t, o),
         Command::Create(t, o) => objects::create(stored, copies, received, log, counts, work, t, o),
-        Command::Set(t, o, f, v) => objects::set_word(
-            stored,
-            copies,
-            received,
-            log,
-            counts,
-            work,
-            t,
-            o,
-            f,
-            v,
-        ),
-        Command::Store(p) => stability::store_page(stored, copies, received, log, counts, work, p),
+        Command::Set(t, o, f, v) => {
+            set_word(stored, copies, received, log, counts, work, t, o, f, v)
+        }
+        Command::Store(p) => store_page(stored, copies, received, log, counts, work, p),
         Command::Force => stability::force(stored, copies, received, log, counts, work),
-        Command::Empty => stability::empty_log(stored, copies, received, log, counts, work),
-        Command::Pass => passes::start_pass(stored, copies, received, log, counts, work),
-        Command::Step => passes::pass_step(stored, copies, received, log, counts, work),
+        Command::Empty => empty_log(stored, copies, received, log, counts, work),
+        Command::Pass => start_pass(stored, copies, received, log, counts, work),
+        Command::Step => pass_step(stored, copies, received, log, counts, work),
         Command::Reopen => reopening::reopen(stored, copies, received, log, counts, work),
         Command::Restep => reopening::restep(stored, copies, received, log, counts, work),
         Command::NoCall => Answer::Refused(Refusal::Malformed),

@@ -17,56 +17,44 @@ use Rattle.store_ops.proofs.room_beyond.Reads as room-beyond-reads
 use Rattle.store_ops.proofs.can_write.Reads as can-write-reads
 use Rattle.store_ops.proofs.has.Reads as has-reads
 
--- src/lib.rt:75:9
 in-range-requires : tie.Need-in-range-requires
 in-range-requires c κs = search needs
 
--- src/lib.rt:76:9
 returns : tie.Need-returns
 unfolding createCheck
 returns c = need-fails _ _ _ (sym (c .before .in-range .ensures) ∙ not-true _ (c .if1 .taken))
 
--- src/lib.rt:78:9
 has-requires : tie.Need-has-requires
 has-requires c κs = let a = c .before .before .before .before .before .before .args in let h = object-range (a .n) (a .t) (a .o) (sym (c .before .in-range .ensures) ∙ not-false _ (c .if1 .left)) in omega arith
 
--- src/lib.rt:79:9
 returns-2 : tie.Need-returns-2
 unfolding createCheck
 returns-2 c = need-fails _ _ _ (sym (c .before .has .ensures) ∙ not-true _ (c .if2 .taken)) ∙ need-holds _ _ _ (sym (c .before .before .before .in-range .ensures) ∙ not-false _ (c .before .before .if1 .left))
 
--- src/lib.rt:81:43
 sub-can-write : tie.Need-sub-can-write
 sub-can-write c = let a = c .before .before .before .before .before .before .before .before .args in let h = object-range (a .n) (a .t) (a .o) (sym (c .before .before .before .in-range .ensures) ∙ not-false _ (c .before .before .if1 .left)) in omega arith
 
--- src/lib.rt:81:9
 can-write-requires : tie.Need-can-write-requires
 can-write-requires c κs = let a = c .before .before .before .before .before .before .before .before .args in let h = object-range (a .n) (a .t) (a .o) (sym (c .before .before .before .in-range .ensures) ∙ not-false _ (c .before .before .if1 .left)) in omega arith
 
--- src/lib.rt:82:9
 returns-3 : tie.Need-returns-3
 unfolding createCheck
 returns-3 c = need-fails _ _ _ (sym (c .before .can-write .ensures) ∙ not-true _ (c .if3 .taken)) ∙ need-holds _ _ _ (sym (c .before .before .before .has .ensures) ∙ not-false _ (c .before .before .if2 .left)) ∙ need-holds _ _ _ (sym (c .before .before .before .before .before .in-range .ensures) ∙ not-false _ (c .before .before .before .before .if1 .left))
 
--- src/lib.rt:84:8
 occupied-requires : tie.Need-occupied-requires
 occupied-requires c κs = let a = c .before .before .before .before .before .before .before .before .before .before .args in let h = object-range (a .n) (a .t) (a .o) (sym (c .before .before .before .before .before .in-range .ensures) ∙ not-false _ (c .before .before .before .before .if1 .left)) in omega arith
 
--- src/lib.rt:85:9
 returns-4 : tie.Need-returns-4
 unfolding createCheck
 returns-4 c = need-fails _ _ _ (ap not (sym (c .before .occupied .ensures) ∙ c .if4 .taken)) ∙ need-holds _ _ _ (sym (c .before .before .before .can-write .ensures) ∙ not-false _ (c .before .before .if3 .left)) ∙ need-holds _ _ _ (sym (c .before .before .before .before .before .has .ensures) ∙ not-false _ (c .before .before .before .before .if2 .left)) ∙ need-holds _ _ _ (sym (c .before .before .before .before .before .before .before .in-range .ensures) ∙ not-false _ (c .before .before .before .before .before .before .if1 .left))
 
--- src/lib.rt:87:9
 room-beyond-requires : tie.Need-room-beyond-requires
 room-beyond-requires c κs = search needs
 
--- src/lib.rt:88:9
 returns-5 : tie.Need-returns-5
 unfolding createCheck
 returns-5 c = need-fails _ _ _ (sym (c .before .room-beyond .ensures ∙ room-in _ _ _ _ _ _ _) ∙ not-true _ (c .if5 .taken)) ∙ need-holds _ _ _ (ap not (sym (c .before .before .before .occupied .ensures) ∙ c .before .before .if4 .left)) ∙ need-holds _ _ _ (sym (c .before .before .before .before .before .can-write .ensures) ∙ not-false _ (c .before .before .before .before .if3 .left)) ∙ need-holds _ _ _ (sym (c .before .before .before .before .before .before .before .has .ensures) ∙ not-false _ (c .before .before .before .before .before .before .if2 .left)) ∙ need-holds _ _ _ (sym (c .before .before .before .before .before .before .before .before .before .in-range .ensures) ∙ not-false _ (c .before .before .before .before .before .before .before .before .if1 .left))
 
--- src/lib.rt:62:1
 returns-6 : tie.Need-returns-6
 unfolding createCheck
 returns-6 c = need-holds _ _ _ (sym (c .before .room-beyond .ensures ∙ room-in _ _ _ _ _ _ _) ∙ not-false _ (c .if5 .left)) ∙ need-holds _ _ _ (ap not (sym (c .before .before .before .occupied .ensures) ∙ c .before .before .if4 .left)) ∙ need-holds _ _ _ (sym (c .before .before .before .before .before .can-write .ensures) ∙ not-false _ (c .before .before .before .before .if3 .left)) ∙ need-holds _ _ _ (sym (c .before .before .before .before .before .before .before .has .ensures) ∙ not-false _ (c .before .before .before .before .before .before .if2 .left)) ∙ need-holds _ _ _ (sym (c .before .before .before .before .before .before .before .before .before .in-range .ensures) ∙ not-false _ (c .before .before .before .before .before .before .before .before .if1 .left))

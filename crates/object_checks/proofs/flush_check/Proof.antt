@@ -15,43 +15,34 @@ use Rattle.page_ops.proofs.copy.page_agrees.Reads as page-agrees-reads
 use Rattle.store_ops.proofs.can_write.Reads as can-write-reads
 use Rattle.store_ops.proofs.has.Reads as has-reads
 
--- src/lib.rt:138:9
 page-in-range-requires : tie.Need-page-in-range-requires
 page-in-range-requires c κs = search needs
 
--- src/lib.rt:139:9
 returns : tie.Need-returns
 unfolding flushCheck agrees
 returns c = need-fails _ _ _ (sym (c .before .page-in-range .ensures) ∙ not-true _ (c .if1 .taken))
 
--- src/lib.rt:141:9
 has-requires : tie.Need-has-requires
 has-requires c κs = let a = c .before .before .before .before .before .args in let h = page-range (a .n) (a .t) (a .p) (sym (c .before .page-in-range .ensures) ∙ not-false _ (c .if1 .left)) in omega arith
 
--- src/lib.rt:142:9
 returns-2 : tie.Need-returns-2
 unfolding flushCheck agrees
 returns-2 c = need-fails _ _ _ (sym (c .before .has .ensures) ∙ not-true _ (c .if2 .taken)) ∙ need-holds _ _ _ (sym (c .before .before .before .page-in-range .ensures) ∙ not-false _ (c .before .before .if1 .left))
 
--- src/lib.rt:144:9
 can-write-requires : tie.Need-can-write-requires
 can-write-requires c κs = let a = c .before .before .before .before .before .before .before .args in let h = page-range (a .n) (a .t) (a .p) (sym (c .before .before .before .page-in-range .ensures) ∙ not-false _ (c .before .before .if1 .left)) in omega arith
 
--- src/lib.rt:145:9
 returns-3 : tie.Need-returns-3
 unfolding flushCheck agrees
 returns-3 c = need-fails _ _ _ (sym (c .before .can-write .ensures) ∙ not-true _ (c .if3 .taken)) ∙ need-holds _ _ _ (sym (c .before .before .before .has .ensures) ∙ not-false _ (c .before .before .if2 .left)) ∙ need-holds _ _ _ (sym (c .before .before .before .before .before .page-in-range .ensures) ∙ not-false _ (c .before .before .before .before .if1 .left))
 
--- src/lib.rt:147:9
 page-agrees-requires : tie.Need-page-agrees-requires
 page-agrees-requires c κs = let a = c .before .before .before .before .before .before .before .before .before .args in let h = page-range (a .n) (a .t) (a .p) (sym (c .before .before .before .before .before .page-in-range .ensures) ∙ not-false _ (c .before .before .before .before .if1 .left)) in omega arith
 
--- src/lib.rt:148:9
 returns-4 : tie.Need-returns-4
 unfolding flushCheck agrees
 returns-4 c = need-fails _ _ _ (sym (c .before .page-agrees .ensures) ∙ not-true _ (c .if4 .taken)) ∙ need-holds _ _ _ (sym (c .before .before .before .can-write .ensures) ∙ not-false _ (c .before .before .if3 .left)) ∙ need-holds _ _ _ (sym (c .before .before .before .before .before .has .ensures) ∙ not-false _ (c .before .before .before .before .if2 .left)) ∙ need-holds _ _ _ (sym (c .before .before .before .before .before .before .before .page-in-range .ensures) ∙ not-false _ (c .before .before .before .before .before .before .if1 .left))
 
--- src/lib.rt:127:1
 returns-5 : tie.Need-returns-5
 unfolding flushCheck agrees
 returns-5 c = need-holds _ _ _ (sym (c .before .page-agrees .ensures) ∙ not-false _ (c .if4 .left)) ∙ need-holds _ _ _ (sym (c .before .before .before .can-write .ensures) ∙ not-false _ (c .before .before .if3 .left)) ∙ need-holds _ _ _ (sym (c .before .before .before .before .before .has .ensures) ∙ not-false _ (c .before .before .before .before .if2 .left)) ∙ need-holds _ _ _ (sym (c .before .before .before .before .before .before .before .page-in-range .ensures) ∙ not-false _ (c .before .before .before .before .before .before .if1 .left))

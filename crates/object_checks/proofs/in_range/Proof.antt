@@ -6,11 +6,9 @@ use Rattle.object_checks.proofs.in_range.Reads as reads
 use Rattle.object_checks.proofs.in_range.Lts as lts
 use Rattle.store_ops.proofs.is_object.Reads as is-object-reads
 
--- src/lib.rt:23:16
 is-object-requires : tie.Need-is-object-requires
 is-object-requires c κs = search needs
 
--- src/lib.rt:19:1
 returns : tie.Need-returns
 returns c = cc
 

@@ -6,11 +6,9 @@ use Rattle.object_checks.proofs.may_write.Reads as reads
 use Rattle.object_checks.proofs.may_write.Lts as lts
 use Rattle.store_ops.proofs.knows.Reads as knows-reads
 
--- src/lib.rt:38:27
 knows-requires : tie.Need-knows-requires
 knows-requires c κs = search needs
 
--- src/lib.rt:34:1
 returns : tie.Need-returns
 returns c = cc
 

@@ -14,47 +14,37 @@ use Rattle.store_ops.proofs.can_read.Reads as can-read-reads
 use Rattle.store_ops.proofs.has.Reads as has-reads
 use Rattle.store_ops.proofs.knows.Reads as knows-reads
 
--- src/lib.rt:46:9
 in-range-requires : tie.Need-in-range-requires
 in-range-requires c κs = search needs
 
--- src/lib.rt:47:9
 returns : tie.Need-returns
 unfolding readCheck
 returns c = need-fails _ _ _ (sym (c .before .in-range .ensures) ∙ not-true _ (c .if1 .taken))
 
--- src/lib.rt:49:9
 has-requires : tie.Need-has-requires
 has-requires c κs = let a = c .before .before .before .args in let h = object-range (a .n) (a .t) (a .o) (sym (c .before .in-range .ensures) ∙ not-false _ (c .if1 .left)) in omega arith
 
--- src/lib.rt:50:9
 returns-2 : tie.Need-returns-2
 unfolding readCheck
 returns-2 c = need-fails _ _ _ (sym (c .before .has .ensures) ∙ not-true _ (c .if2 .taken)) ∙ need-holds _ _ _ (sym (c .before .before .before .in-range .ensures) ∙ not-false _ (c .before .before .if1 .left))
 
--- src/lib.rt:52:42
 sub-can-read : tie.Need-sub-can-read
 sub-can-read c = let a = c .before .before .before .before .before .args in let h = object-range (a .n) (a .t) (a .o) (sym (c .before .before .before .in-range .ensures) ∙ not-false _ (c .before .before .if1 .left)) in omega arith
 
--- src/lib.rt:52:9
 can-read-requires : tie.Need-can-read-requires
 can-read-requires c κs = let a = c .before .before .before .before .before .args in let h = object-range (a .n) (a .t) (a .o) (sym (c .before .before .before .in-range .ensures) ∙ not-false _ (c .before .before .if1 .left)) in omega arith
 
--- src/lib.rt:53:9
 returns-3 : tie.Need-returns-3
 unfolding readCheck
 returns-3 c = need-fails _ _ _ (sym (c .before .can-read .ensures) ∙ not-true _ (c .if3 .taken)) ∙ need-holds _ _ _ (sym (c .before .before .before .has .ensures) ∙ not-false _ (c .before .before .if2 .left)) ∙ need-holds _ _ _ (sym (c .before .before .before .before .before .in-range .ensures) ∙ not-false _ (c .before .before .before .before .if1 .left))
 
--- src/lib.rt:55:9
 knows-requires : tie.Need-knows-requires
 knows-requires c κs = let a = c .before .before .before .before .before .before .before .args in let h = object-range (a .n) (a .t) (a .o) (sym (c .before .before .before .before .before .in-range .ensures) ∙ not-false _ (c .before .before .before .before .if1 .left)) in omega arith
 
--- src/lib.rt:56:9
 returns-4 : tie.Need-returns-4
 unfolding readCheck
 returns-4 c = need-fails _ _ _ (sym (c .before .knows .ensures) ∙ not-true _ (c .if4 .taken)) ∙ need-holds _ _ _ (sym (c .before .before .before .can-read .ensures) ∙ not-false _ (c .before .before .if3 .left)) ∙ need-holds _ _ _ (sym (c .before .before .before .before .before .has .ensures) ∙ not-false _ (c .before .before .before .before .if2 .left)) ∙ need-holds _ _ _ (sym (c .before .before .before .before .before .before .before .in-range .ensures) ∙ not-false _ (c .before .before .before .before .before .before .if1 .left))
 
--- src/lib.rt:42:1
 returns-5 : tie.Need-returns-5
 unfolding readCheck
 returns-5 c = need-holds _ _ _ (sym (c .before .knows .ensures) ∙ not-false _ (c .if4 .left)) ∙ need-holds _ _ _ (sym (c .before .before .before .can-read .ensures) ∙ not-false _ (c .before .before .if3 .left)) ∙ need-holds _ _ _ (sym (c .before .before .before .before .before .has .ensures) ∙ not-false _ (c .before .before .before .before .if2 .left)) ∙ need-holds _ _ _ (sym (c .before .before .before .before .before .before .before .in-range .ensures) ∙ not-false _ (c .before .before .before .before .before .before .if1 .left))

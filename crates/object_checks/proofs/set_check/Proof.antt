@@ -19,60 +19,47 @@ use Rattle.store_ops.proofs.can_write.Reads as can-write-reads
 use Rattle.store_ops.proofs.has.Reads as has-reads
 use Rattle.store_ops.proofs.knows.Reads as knows-reads
 
--- src/lib.rt:108:10
 in-range-requires : tie.Need-in-range-requires
 in-range-requires c κs = search needs
 
--- src/lib.rt:109:9
 returns : tie.Need-returns
 unfolding setCheck isRefAt
 returns c = need-fails _ _ _ (sym (and-cong (c .before .in-range .ensures) refl) ∙ not-true _ (c .if1 .taken))
 
--- src/lib.rt:111:9
 has-requires : tie.Need-has-requires
 has-requires c κs = let a = c .before .before .before .before .before .args in let h = object-range (a .n) (a .t) (a .o) (sym (c .before .in-range .ensures) ∙ and-l _ _ (not-false _ (c .if1 .left))) in omega arith
 
--- src/lib.rt:112:9
 returns-2 : tie.Need-returns-2
 unfolding setCheck isRefAt
 returns-2 c = need-fails _ _ _ (sym (c .before .has .ensures) ∙ not-true _ (c .if2 .taken)) ∙ need-holds _ _ _ (sym (and-cong (c .before .before .before .in-range .ensures) refl) ∙ not-false _ (c .before .before .if1 .left))
 
--- src/lib.rt:114:43
 sub-can-write : tie.Need-sub-can-write
 sub-can-write c = let a = c .before .before .before .before .before .before .before .args in let h = object-range (a .n) (a .t) (a .o) (sym (c .before .before .before .in-range .ensures) ∙ and-l _ _ (not-false _ (c .before .before .if1 .left))) in omega arith
 
--- src/lib.rt:114:9
 can-write-requires : tie.Need-can-write-requires
 can-write-requires c κs = let a = c .before .before .before .before .before .before .before .args in let h = object-range (a .n) (a .t) (a .o) (sym (c .before .before .before .in-range .ensures) ∙ and-l _ _ (not-false _ (c .before .before .if1 .left))) in omega arith
 
--- src/lib.rt:115:9
 returns-3 : tie.Need-returns-3
 unfolding setCheck isRefAt
 returns-3 c = need-fails _ _ _ (sym (c .before .can-write .ensures) ∙ not-true _ (c .if3 .taken)) ∙ need-holds _ _ _ (sym (c .before .before .before .has .ensures) ∙ not-false _ (c .before .before .if2 .left)) ∙ need-holds _ _ _ (sym (and-cong (c .before .before .before .before .before .in-range .ensures) refl) ∙ not-false _ (c .before .before .before .before .if1 .left))
 
--- src/lib.rt:117:10
 knows-requires : tie.Need-knows-requires
 knows-requires c κs = let a = c .before .before .before .before .before .before .before .before .before .args in let h = object-range (a .n) (a .t) (a .o) (sym (c .before .before .before .before .before .in-range .ensures) ∙ and-l _ _ (not-false _ (c .before .before .before .before .if1 .left))) in omega arith
 
--- src/lib.rt:117:44
 may-write-requires : tie.Need-may-write-requires
 may-write-requires c κs = let a = c .before .before .before .before .before .before .before .before .before .before .args in let h = object-range (a .n) (a .t) (a .o) (sym (c .before .before .before .before .before .before .in-range .ensures) ∙ and-l _ _ (not-false _ (c .before .before .before .before .before .if1 .left))) in omega arith
 
--- src/lib.rt:118:9
 returns-4 : tie.Need-returns-4
 unfolding setCheck isRefAt
 returns-4 c = need-fails _ _ _ (sym (and-cong (c .before .before .knows .ensures) (c .before .may-write .ensures)) ∙ not-true _ (c .if4 .taken)) ∙ need-holds _ _ _ (sym (c .before .before .before .before .can-write .ensures) ∙ not-false _ (c .before .before .before .if3 .left)) ∙ need-holds _ _ _ (sym (c .before .before .before .before .before .before .has .ensures) ∙ not-false _ (c .before .before .before .before .before .if2 .left)) ∙ need-holds _ _ _ (sym (and-cong (c .before .before .before .before .before .before .before .before .in-range .ensures) refl) ∙ not-false _ (c .before .before .before .before .before .before .before .if1 .left))
 
--- src/lib.rt:120:9
 room-beyond-requires : tie.Need-room-beyond-requires
 room-beyond-requires c κs = search needs
 
--- src/lib.rt:121:9
 returns-5 : tie.Need-returns-5
 unfolding setCheck isRefAt
 returns-5 c = need-fails _ _ _ (sym (c .before .room-beyond .ensures ∙ room-in _ _ _ _ _ _ _) ∙ not-true _ (c .if5 .taken)) ∙ need-holds _ _ _ (sym (and-cong (c .before .before .before .before .knows .ensures) (c .before .before .before .may-write .ensures)) ∙ not-false _ (c .before .before .if4 .left)) ∙ need-holds _ _ _ (sym (c .before .before .before .before .before .before .can-write .ensures) ∙ not-false _ (c .before .before .before .before .before .if3 .left)) ∙ need-holds _ _ _ (sym (c .before .before .before .before .before .before .before .before .has .ensures) ∙ not-false _ (c .before .before .before .before .before .before .before .if2 .left)) ∙ need-holds _ _ _ (sym (and-cong (c .before .before .before .before .before .before .before .before .before .before .in-range .ensures) refl) ∙ not-false _ (c .before .before .before .before .before .before .before .before .before .if1 .left))
 
--- src/lib.rt:94:1
 returns-6 : tie.Need-returns-6
 unfolding setCheck isRefAt
 returns-6 c = need-holds _ _ _ (sym (c .before .room-beyond .ensures ∙ room-in _ _ _ _ _ _ _) ∙ not-false _ (c .if5 .left)) ∙ need-holds _ _ _ (sym (and-cong (c .before .before .before .before .knows .ensures) (c .before .before .before .may-write .ensures)) ∙ not-false _ (c .before .before .if4 .left)) ∙ need-holds _ _ _ (sym (c .before .before .before .before .before .before .can-write .ensures) ∙ not-false _ (c .before .before .before .before .before .if3 .left)) ∙ need-holds _ _ _ (sym (c .before .before .before .before .before .before .before .before .has .ensures) ∙ not-false _ (c .before .before .before .before .before .before .before .if2 .left)) ∙ need-holds _ _ _ (sym (and-cong (c .before .before .before .before .before .before .before .before .before .before .in-range .ensures) refl) ∙ not-false _ (c .before .before .before .before .before .before .before .before .before .if1 .left))

@@ -1,27 +1,19 @@
-use native.Mathlib.Omega.{arith}
-use mathlib.Core.Path.{_≡_, refl, sym, ap, _∙_}
+use mathlib.Core.Path.{sym, _∙_}
 use Rattle.words.specs.Tests.{if-t, if-f}
 use borrow.Author.Tests.{eq-eqb, ne-eqb}
 use borrow.Author.Needs.{needs}
 use Rattle.page_replay.proofs.leave.Statement.{statement}
 use Rattle.page_replay.proofs.leave.Tie as tie
-use Rattle.page_replay.proofs.leave.Reads as reads
-use Rattle.page_replay.proofs.leave.Lts as lts
-use Rattle.page_ops.proofs.bits.without_bit.Reads as without-bit-reads
 
--- src/lib.rt:108:37
 cast-without-bit : tie.Need-cast-without-bit
 cast-without-bit c = search needs
 
--- src/lib.rt:108:9
 without-bit-requires : tie.Need-without-bit-requires
 without-bit-requires c κs = search needs
 
--- src/lib.rt:108:9
 returns : tie.Need-returns
 returns c = c .without-bit .ensures ∙ sym (if-t _ _ _ (eq-eqb _ _ (c .before .before .if1 .taken)))
 
--- src/lib.rt:103:1
 returns-2 : tie.Need-returns-2
 returns-2 c = sym (if-f _ _ _ (ne-eqb _ _ (c .if1 .left)))
 

@@ -1,5 +1,4 @@
-use native.Mathlib.Omega.{arith}
-use mathlib.Core.Path.{_≡_, refl, sym, ap, _∙_}
+use mathlib.Core.Path.{sym, ap, _∙_}
 use Rattle.record_laws.specs.RecordLaws.{sound-record, named-from}
 use borrow.Author.Tests.{not-true, not-false}
 use Rattle.words.specs.Tests.{and-t, and-f}
@@ -8,24 +7,16 @@ use Prim.Native.Nat.{ℕ}
 use borrow.Author.Needs.{needs}
 use Rattle.page_replay.proofs.on_page.Statement.{statement}
 use Rattle.page_replay.proofs.on_page.Tie as tie
-use Rattle.page_replay.proofs.on_page.Reads as reads
-use Rattle.page_replay.proofs.on_page.Lts as lts
-use Rattle.record_ops.proofs.names_page.Reads as names-page-reads
-use Rattle.record_ops.proofs.page_named.Reads as page-named-reads
 
--- src/lib.rt:42:9
 names-page-requires : tie.Need-names-page-requires
 names-page-requires c κs = search needs
 
--- src/lib.rt:43:9
 returns : tie.Need-returns
 returns c = sym (and-f _ _ (sym (c .before .names-page .ensures) ∙ not-true _ (c .if1 .taken)))
 
--- src/lib.rt:45:5
 page-named-requires : tie.Need-page-named-requires
 page-named-requires c κs = named-from 256 _ (sound-record 256 _ (c .before .before .pre)) (sym (c .before .names-page .ensures) ∙ not-false _ (c .if1 .left))
 
--- src/lib.rt:38:1
 returns-2 : tie.Need-returns-2
 returns-2 c = ap (λ (q : ℕ). eqb q (c .before .before .before .args .p)) (c .page-named .ensures) ∙ sym (and-t _ _ (sym (c .before .before .names-page .ensures) ∙ not-false _ (c .before .if1 .left)))
 

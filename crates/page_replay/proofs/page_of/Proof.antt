@@ -1,13 +1,11 @@
 use borrow.Author.Needs.{needs}
 use native.Mathlib.Omega.{arith}
-use mathlib.Core.Path.{_≡_, refl, sym, ap, _∙_}
+use mathlib.Core.Path.{_≡_, refl}
 use Prim.Native.Nat.{_≤_, _-_}
 use lib.ListN.{length, length-set}
 use Rattle.page_replay.specs.Pages.{FilledTo, filled-next, pageWord, loaded-page}
 use Rattle.page_replay.proofs.page_of.Statement.{statement}
 use Rattle.page_replay.proofs.page_of.Tie as tie
-use Rattle.page_replay.proofs.page_of.Reads as reads
-use Rattle.page_replay.proofs.page_of.Lts as lts
 
 abbrev Inv-loop : tie.InvT-loop
 Inv-loop a p page₀ i₀ page i = (i ≤ 129) × (length page ≡ 129) × FilledTo page (pageWord a p) i
@@ -15,47 +13,36 @@ Inv-loop a p page₀ i₀ page i = (i ≤ 129) × (length page ≡ 129) × Fille
 abbrev μ-loop : tie.MeasureT-loop
 μ-loop a p page₀ i₀ page i = 129 - i
 
--- src/lib.rt:23:5
 loop-holds : tie.Need-loop-holds Inv-loop μ-loop
 loop-holds c = (omega arith, refl, λ k l. absurd (omega arith))
 
--- src/lib.rt:24:21
 mul-page : tie.Need-mul-page Inv-loop μ-loop
 mul-page c = search needs
 
--- src/lib.rt:24:21
 add-page : tie.Need-add-page Inv-loop μ-loop
 add-page c = search needs
 
--- src/lib.rt:24:19
 mul-page-2 : tie.Need-mul-page-2 Inv-loop μ-loop
 mul-page-2 c = search needs
 
--- src/lib.rt:24:19
 shared-slice-read-page : tie.Need-shared-slice-read-page Inv-loop μ-loop
 shared-slice-read-page c = search needs
 
--- src/lib.rt:24:9
 mul-page-3 : tie.Need-mul-page-3 Inv-loop μ-loop
 mul-page-3 c = search needs
 
--- src/lib.rt:24:9
 array-write-page : tie.Need-array-write-page Inv-loop μ-loop
 array-write-page c = search needs
 
--- src/lib.rt:23:9
 add-i : tie.Need-add-i Inv-loop μ-loop
 add-i c = search needs
 
--- src/lib.rt:23:5
 loop-less : tie.Need-loop-less Inv-loop μ-loop
 loop-less c = search needs
 
--- src/lib.rt:23:5
 loop-again : tie.Need-loop-again Inv-loop μ-loop
 loop-again c = (omega arith, simp length-set (c .before .before .loop .inv .1), filled-next (c .before .before .loop .page) (pageWord (c .before .before .before .args .a .now) (c .before .before .before .args .p)) 129 (c .before .before .loop .i) (c .before .before .loop .inv .1) (c .before .loop-test .taken) (c .before .before .loop .inv .2))
 
--- src/lib.rt:18:1
 returns : tie.Need-returns Inv-loop μ-loop
 returns c = loaded-page (c .before .loop .page) (c .before .before .args .a .now) (c .before .before .args .p) (c .before .loop .inv .1) (λ k l. c .before .loop .inv .2 k (omega arith))
 

@@ -1,17 +1,12 @@
 use borrow.Author.Needs.{needs}
 use native.Mathlib.Omega.{arith}
-use mathlib.Core.Path.{_≡_, refl, sym, ap, _∙_}
-use Prim.Native.Nat.{_≤_, _-_}
+use mathlib.Core.Path.{_≡_, refl, _∙_}
+use Prim.Native.Nat.{_≤_}
 use lib.ListN.{length}
 use Rattle.page_replay.specs.Replay.{undonePage, undone-page-down, undone-page-end, record-sound-of}
 use Rattle.record_laws.specs.RecordLaws.{record-facts}
 use Rattle.page_replay.proofs.undo_page.Statement.{statement}
 use Rattle.page_replay.proofs.undo_page.Tie as tie
-use Rattle.page_replay.proofs.undo_page.Reads as reads
-use Rattle.page_replay.proofs.undo_page.Lts as lts
-use Rattle.page_replay.proofs.leave.Reads as leave-reads
-use Rattle.page_replay.proofs.unplay_on.Reads as unplay-on-reads
-use Rattle.records.proofs.record_at.Reads as record-at-reads
 
 abbrev Inv-loop : tie.InvT-loop
 Inv-loop page₀ log c m p left₀ i₀ page left i = (i ≤ c) × (length page ≡ 129) × (undonePage p log left i page ≡ undonePage p log m c page₀)
@@ -19,39 +14,30 @@ Inv-loop page₀ log c m p left₀ i₀ page left i = (i ≤ c) × (length page 
 abbrev μ-loop : tie.MeasureT-loop
 μ-loop page₀ log c m p left₀ i₀ page left i = i
 
--- src/lib.rt:130:5
 loop-holds : tie.Need-loop-holds Inv-loop μ-loop
 loop-holds c = (omega arith, c .before .before .pre .0, refl)
 
--- src/lib.rt:131:9
 sub-i : tie.Need-sub-i Inv-loop μ-loop
 sub-i c = search needs
 
--- src/lib.rt:132:13
 record-at-requires : tie.Need-record-at-requires Inv-loop μ-loop
 record-at-requires c κs = search needs
 
--- src/lib.rt:133:9
 unplay-on-requires : tie.Need-unplay-on-requires Inv-loop μ-loop
 unplay-on-requires c κs = (c .before .before .before .loop .inv .1, record-sound-of 256 _ _ _ _ (c .before .record-at .ensures) (c .before .before .before .before .before .before .pre .2) (omega arith))
 
--- src/lib.rt:134:9
 leave-requires : tie.Need-leave-requires Inv-loop μ-loop
 leave-requires c κs = record-facts 256 _ _ _ _ (c .before .before .before .before .record-at .ensures) (c .before .before .before .before .before .before .before .before .before .pre .2) (omega arith) .txn-below
 
--- src/lib.rt:130:5
 loop-less : tie.Need-loop-less Inv-loop μ-loop
 loop-less c = search needs
 
--- src/lib.rt:130:5
 loop-again : tie.Need-loop-again Inv-loop μ-loop
 loop-again c = (omega arith, search needs, undone-page-down _ _ _ _ _ _ (c .before .before .before .before .before .before .loop-test .taken) (c .before .before .before .before .before .record-at .ensures) (c .leave .ensures) (c .before .before .before .unplay-on .ensures) ∙ c .before .before .before .before .before .before .before .loop .inv .2)
 
--- src/lib.rt:124:1
 same-length : tie.Need-same-length Inv-loop μ-loop
 same-length c = search needs
 
--- src/lib.rt:124:1
 returns : tie.Need-returns Inv-loop μ-loop
 returns c = undone-page-end _ _ _ _ _ (omega arith) ∙ c .before .loop .inv .2
 

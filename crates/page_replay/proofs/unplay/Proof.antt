@@ -4,81 +4,58 @@ use Rattle.page_replay.specs.Replay.{unplayed-create, unplayed-write, un
 use borrow.Author.Needs.{needs}
 use Rattle.page_replay.proofs.unplay.Statement.{statement}
 use Rattle.page_replay.proofs.unplay.Tie as tie
-use Rattle.page_replay.proofs.unplay.Reads as reads
-use Rattle.page_replay.proofs.unplay.Lts as lts
-use Rattle.page_ops.proofs.change.free_slot.Reads as free-slot-reads
-use Rattle.page_ops.proofs.change.take_slot.Reads as take-slot-reads
-use Rattle.page_replay.proofs.slot_of.Reads as slot-of-reads
 
--- src/lib.rt:70:41
 slot-of-requires : tie.Need-slot-of-requires
 slot-of-requires c κs = let h = sound-record 256 _ (c .before .before .before .pre .1) .create (c .before .match .keys1) in omega arith
 
--- src/lib.rt:70:14
 free-slot-requires : tie.Need-free-slot-requires
 free-slot-requires c κs = search needs
 
--- src/lib.rt:71:27
 slot-of-requires-2 : tie.Need-slot-of-requires-2
 slot-of-requires-2 c κs = sound-record 256 _ (c .before .before .pre .1) .write (c .match .keys2) .0
 
--- src/lib.rt:71:23
 mul-page : tie.Need-mul-page
 mul-page c = search needs
 
--- src/lib.rt:71:19
 add-page : tie.Need-add-page
 add-page c = search needs
 
--- src/lib.rt:71:48
 cast-page : tie.Need-cast-page
 cast-page c = search needs
 
--- src/lib.rt:71:19
 add-page-2 : tie.Need-add-page-2
 add-page-2 c = search needs
 
--- src/lib.rt:71:14
 mul-page-2 : tie.Need-mul-page-2
 mul-page-2 c = search needs
 
--- src/lib.rt:71:14
 slice-write-page : tie.Need-slice-write-page
 slice-write-page c = let f = sound-record 256 _ (c .before .before .before .before .pre .1) .field-below in let e = c .before .slot-of2 .ensures in omega arith
 
--- src/lib.rt:72:41
 slot-of-requires-3 : tie.Need-slot-of-requires-3
 slot-of-requires-3 c κs = let h = sound-record 256 _ (c .before .before .before .pre .1) .uncreate (c .before .match .keys3) in omega arith
 
--- src/lib.rt:72:14
 take-slot-requires : tie.Need-take-slot-requires
 take-slot-requires c κs = search needs
 
--- src/lib.rt:64:1
 same-length : tie.Need-same-length
 same-length c = search needs
 
--- src/lib.rt:64:1
 returns : tie.Need-returns
 returns c = unplayed-create _ _ (c .before .before .before .slot-of .ensures) (c .before .before .before .before .before .match .keys1) (c .before .before .free-slot .ensures)
 
--- src/lib.rt:64:1
 same-length-2 : tie.Need-same-length-2
 same-length-2 c = search needs
 
--- src/lib.rt:64:1
 returns-2 : tie.Need-returns-2
 returns-2 c = unplayed-write _ _ (c .before .slot-of2 .ensures) (c .before .before .match .keys2)
 
--- src/lib.rt:64:1
 same-length-3 : tie.Need-same-length-3
 same-length-3 c = search needs
 
--- src/lib.rt:64:1
 returns-3 : tie.Need-returns-3
 returns-3 c = unplayed-uncreate _ _ (c .before .before .before .slot-of3 .ensures) (c .before .before .before .before .before .match .keys3) (c .before .before .take-slot .ensures)
 
--- src/lib.rt:64:1
 returns-4 : tie.Need-returns-4
 returns-4 c = let x = c .match .rest in unplayed-none _ _ (x .0 .0 .1) (x .0 .1) (x .1)
 

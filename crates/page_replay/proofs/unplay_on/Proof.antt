@@ -1,46 +1,33 @@
 use native.Mathlib.Omega.{arith}
-use mathlib.Core.Path.{_≡_, refl, sym, ap, _∙_}
+use mathlib.Core.Path.{sym, _∙_}
 use borrow.Author.Tests.{not-true, not-false}
 use Rattle.words.specs.Tests.{if-t, if-f}
 use Rattle.record_laws.specs.RecordLaws.{sound-record}
 use borrow.Author.Needs.{needs}
 use Rattle.page_replay.proofs.unplay_on.Statement.{statement}
 use Rattle.page_replay.proofs.unplay_on.Tie as tie
-use Rattle.page_replay.proofs.unplay_on.Reads as reads
-use Rattle.page_replay.proofs.unplay_on.Lts as lts
-use Rattle.page_replay.proofs.on_page.Reads as on-page-reads
-use Rattle.page_replay.proofs.unplay.Reads as unplay-reads
-use Rattle.words.proofs.has_bit.Reads as has-bit-reads
 
--- src/lib.rt:93:27
 cast-has-bit : tie.Need-cast-has-bit
 cast-has-bit c = search needs
 
--- src/lib.rt:93:9
 has-bit-requires : tie.Need-has-bit-requires
 has-bit-requires c κs = let h = sound-record 256 _ (c .before .before .pre .1) .txn-below in omega arith
 
--- src/lib.rt:94:9
 returns : tie.Need-returns
 returns c = sym (if-f _ _ _ (sym (c .before .has-bit .ensures) ∙ not-true _ (c .if1 .taken)))
 
--- src/lib.rt:96:9
 on-page-requires : tie.Need-on-page-requires
 on-page-requires c κs = search needs
 
--- src/lib.rt:97:9
 returns-2 : tie.Need-returns-2
 returns-2 c = sym (if-t _ _ _ (sym (c .before .before .before .has-bit .ensures) ∙ not-false _ (c .before .before .if1 .left)) ∙ if-f _ _ _ (sym (c .before .on-page .ensures) ∙ not-true _ (c .if2 .taken)))
 
--- src/lib.rt:99:5
 unplay-requires : tie.Need-unplay-requires
 unplay-requires c κs = search needs
 
--- src/lib.rt:89:1
 same-length : tie.Need-same-length
 same-length c = search needs
 
--- src/lib.rt:89:1
 returns-3 : tie.Need-returns-3
 returns-3 c = c .before .before .unplay .ensures ∙ sym (if-t _ _ _ (sym (c .before .before .before .before .before .before .before .has-bit .ensures) ∙ not-false _ (c .before .before .before .before .before .before .if1 .left)) ∙ if-t _ _ _ (sym (c .before .before .before .before .before .on-page .ensures) ∙ not-false _ (c .before .before .before .before .if2 .left)))
 

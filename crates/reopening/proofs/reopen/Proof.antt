@@ -6,70 +6,49 @@ use Rattle.reopening.specs.Reopens.{found-recovers, reopen-malformed, re
 use borrow.Author.Needs.{needs}
 use Rattle.reopening.proofs.reopen.Statement.{statement}
 use Rattle.reopening.proofs.reopen.Tie as tie
-use Rattle.reopening.proofs.reopen.Reads as reads
-use Rattle.reopening.proofs.reopen.Lts as lts
-use Rattle.entry.proofs.lengths_fit.Reads as lengths-fit-reads
-use Rattle.recovering.proofs.find_open.Reads as find-open-reads
-use Rattle.recovering.proofs.rebuild.Reads as rebuild-reads
-use Rattle.recovering.proofs.restart.Reads as restart-reads
 
--- src/lib.rt:22:9
 lengths-fit-requires : tie.Need-lengths-fit-requires
 lengths-fit-requires c κs = search needs
 
--- src/lib.rt:30:9
 returns : tie.Need-returns
 returns c = reopen-malformed _ _ _ _ _ _ (sym (c .before .lengths-fit .ensures) ∙ not-true _ (c .if1 .taken))
 
--- src/lib.rt:32:18
 slice-read-stable : tie.Need-slice-read-stable
 slice-read-stable c = let h = lengths-facts _ _ _ _ _ _ (sym (c .before .before .lengths-fit .ensures) ∙ not-false _ (c .before .if1 .left)) in omega arith
 
--- src/lib.rt:32:18
 cast-stable : tie.Need-cast-stable
 cast-stable c = omega (arith, c .slice-known5 .given 1)
 
--- src/lib.rt:33:9
 find-open-requires : tie.Need-find-open-requires
 find-open-requires c κs = let h = lengths-facts _ _ _ _ _ _ (sym (c .before .before .lengths-fit .ensures) ∙ not-false _ (c .before .if1 .left)) in (h .low, h .top, h .stored-len, h .log-len)
 
--- src/lib.rt:35:22
 enum-known-s : tie.Need-enum-known-s
 enum-known-s c = search needs
 
--- src/lib.rt:36:20
 enum-known-s-2 : tie.Need-enum-known-s-2
 enum-known-s-2 c = search needs
 
--- src/lib.rt:37:13
 rebuild-requires : tie.Need-rebuild-requires
 rebuild-requires c κs = let h = lengths-facts _ _ _ _ _ _ (sym (c .before .before .before .before .before .before .before .before .lengths-fit .ensures) ∙ not-false _ (c .before .before .before .before .before .before .before .if1 .left)) in let f = found-recovers (c .before .before .before .before .before .before .before .before .before .before .before .before .before .before .before .args .stored .now) _ _ _ (sym (c .before .before .before .before .before .find-open .ensures) ∙ c .before .before .before .s2 .given .1) in (omega arith, omega arith, f .fits, f .sound, f .left)
 
--- src/lib.rt:38:13
 restart-requires : tie.Need-restart-requires
 restart-requires c κs = let h = lengths-facts _ _ _ _ _ _ (sym (c .before .before .before .before .before .before .before .before .before .before .before .before .before .before .before .lengths-fit .ensures) ∙ not-false _ (c .before .before .before .before .before .before .before .before .before .before .before .before .before .before .if1 .left)) in (omega arith, omega arith)
 
--- src/lib.rt:12:1
 returns-2 : tie.Need-returns-2
 returns-2 c = reopen-unsound _ _ _ _ _ _ (sym (c .before .before .before .before .before .before .lengths-fit .ensures) ∙ not-false _ (c .before .before .before .before .before .if1 .left)) _ (sym (c .before .before .before .find-open .ensures) ∙ c .before .s .given .1)
 
--- src/lib.rt:12:1
 same-length : tie.Need-same-length
 same-length c = search needs
 
--- src/lib.rt:12:1
 same-length-2 : tie.Need-same-length-2
 same-length-2 c = search needs
 
--- src/lib.rt:12:1
 same-length-3 : tie.Need-same-length-3
 same-length-3 c = search needs
 
--- src/lib.rt:12:1
 same-length-4 : tie.Need-same-length-4
 same-length-4 c = search needs
 
--- src/lib.rt:12:1
 returns-3 : tie.Need-returns-3
 returns-3 c = reopen-done _ _ _ _ _ _ (sym (c .before .before .before .before .before .before .before .before .before .before .before .before .before .before .before .before .before .before .before .before .lengths-fit .ensures) ∙ not-false _ (c .before .before .before .before .before .before .before .before .before .before .before .before .before .before .before .before .before .before .before .if1 .left)) _ (sym (c .before .before .before .before .before .before .before .before .before .before .before .before .before .before .before .before .before .find-open .ensures) ∙ c .before .before .before .before .before .before .before .before .before .before .before .before .before .before .before .s2 .given .1) (c .before .before .before .before .before .before .before .before .before .before .before .rebuild .ensures .0) (c .before .before .before .before .before .before .before .before .before .before .before .rebuild .ensures .1) (c .before .before .before .before .restart .ensures .0) (c .before .before .before .before .restart .ensures .1)
 

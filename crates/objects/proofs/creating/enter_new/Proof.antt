@@ -6,63 +6,48 @@ use Rattle.objects.proofs.creating.enter_new.Reads as reads
 use Rattle.objects.proofs.creating.enter_new.Lts as lts
 use Rattle.store_ops.proofs.gain.Reads as gain-reads
 
--- src/creating.rt:21:13
 sub-i : tie.Need-sub-i
 sub-i c = search needs
 
--- src/creating.rt:22:31
 mul-gain : tie.Need-mul-gain
 mul-gain c = search needs
 
--- src/creating.rt:22:27
 add-gain : tie.Need-add-gain
 add-gain c = search needs
 
--- src/creating.rt:22:27
 add-gain-2 : tie.Need-add-gain-2
 add-gain-2 c = search needs
 
--- src/creating.rt:22:5
 gain-requires : tie.Need-gain-requires
 gain-requires c κs = search needs
 
--- src/creating.rt:23:31
 mul-gain-2 : tie.Need-mul-gain-2
 mul-gain-2 c = search needs
 
--- src/creating.rt:23:27
 add-gain-3 : tie.Need-add-gain-3
 add-gain-3 c = search needs
 
--- src/creating.rt:23:27
 add-gain-4 : tie.Need-add-gain-4
 add-gain-4 c = search needs
 
--- src/creating.rt:23:5
 gain-requires-2 : tie.Need-gain-requires-2
 gain-requires-2 c κs = search needs
 
--- src/creating.rt:24:31
 mul-gain-3 : tie.Need-mul-gain-3
 mul-gain-3 c = search needs
 
--- src/creating.rt:24:27
 add-gain-5 : tie.Need-add-gain-5
 add-gain-5 c = search needs
 
--- src/creating.rt:24:27
 add-gain-6 : tie.Need-add-gain-6
 add-gain-6 c = search needs
 
--- src/creating.rt:24:5
 gain-requires-3 : tie.Need-gain-requires-3
 gain-requires-3 c κs = search needs
 
--- src/creating.rt:17:1
 same-length : tie.Need-same-length
 same-length c = search needs
 
--- src/creating.rt:17:1
 returns : tie.Need-returns
 returns c = cc
 

@@ -13,43 +13,33 @@ use Rattle.objects.proofs.flushing.copy_rows.Lts as lts
 use Rattle.page_ops.proofs.rows.put_rows.Reads as put-rows-reads
 use Rattle.page_ops.proofs.rows.rows_of.Reads as rows-of-reads
 
--- src/flushing.rt:19:32
 mul-copies : tie.Need-mul-copies
 mul-copies c = search needs
 
--- src/flushing.rt:19:23
 mul-copies-2 : tie.Need-mul-copies-2
 mul-copies-2 c = search needs
 
--- src/flushing.rt:19:23
 shared-slice-read-copies : tie.Need-shared-slice-read-copies
 shared-slice-read-copies c = search needs
 
--- src/flushing.rt:19:12
 mul-copies-3 : tie.Need-mul-copies-3
 mul-copies-3 c = search needs
 
--- src/flushing.rt:19:5
 mul-copies-4 : tie.Need-mul-copies-4
 mul-copies-4 c = search needs
 
--- src/flushing.rt:19:5
 slice-write-copies : tie.Need-slice-write-copies
 slice-write-copies c = search needs
 
--- src/flushing.rt:20:31
 rows-of-requires : tie.Need-rows-of-requires
 rows-of-requires c κs = search needs
 
--- src/flushing.rt:20:5
 put-rows-requires : tie.Need-put-rows-requires
 put-rows-requires c κs = search needs
 
--- src/flushing.rt:15:1
 same-length : tie.Need-same-length
 same-length c = c .before .before .put-rows .kept .0 ∙ simp length-set
 
--- src/flushing.rt:15:1
 returns : tie.Need-returns
 returns c = let a = c .before .before .before .before .before .before .before .before .args in c .before .before .put-rows .ensures ∙ ap (λ (t : List (List ℕ)). withRows (set (a .copies .now) (129 * a .p) (getD (a .received .now) (129 * a .p) 0)) (a .p) t 16) (c .before .before .before .rows-of .ensures) ∙ page-by-rows _ _ _ (c .before .before .before .before .before .before .before .before .pre .0) (c .before .before .before .before .before .before .before .before .pre .1)
 

@@ -16,69 +16,53 @@ use Rattle.entry.proofs.entry_check.Reads as entry-check-reads
 use Rattle.object_checks.proofs.flush_check.Reads as flush-check-reads
 use Rattle.objects.proofs.flushing.flush_apply.Reads as flush-apply-reads
 
--- src/flushing.rt:48:9
 entry-check-requires : tie.Need-entry-check-requires
 entry-check-requires c κs = search needs
 
--- src/flushing.rt:50:20
 enum-known-e : tie.Need-enum-known-e
 enum-known-e c = search needs
 
--- src/flushing.rt:51:19
 enum-known-e-2 : tie.Need-enum-known-e-2
 enum-known-e-2 c = search needs
 
--- src/flushing.rt:52:17
 flush-check-requires : tie.Need-flush-check-requires
 flush-check-requires c κs = let h = opened _ _ _ (sym (c .before .before .before .before .entry-check .ensures) ∙ c .before .before .e2 .given .1) in let q = entered _ _ _ _ (sym (c .before .before .before .before .entry-check .ensures) ∙ c .before .before .e2 .given .1) in (h .sized .received-len, h .sized .work-len, h .sized .top, eqb-true _ _ (q .own-fits))
 
--- src/flushing.rt:54:31
 enum-known-k : tie.Need-enum-known-k
 enum-known-k c = search needs
 
--- src/flushing.rt:56:43
 enum-told : tie.Need-enum-told
 enum-told c = search needs
 
--- src/flushing.rt:56:21
 flush-apply-requires : tie.Need-flush-apply-requires
 flush-apply-requires c κs = flush-ready _ _ _ _ _ _ _ _ _ _ (sym (c .before .before .before .before .before .before .before .before .before .entry-check .ensures) ∙ c .before .before .before .before .before .before .before .e2 .given .1) (sym (c .before .before .before .before .flush-check .ensures) ∙ c .before .before .enum-told .given .1)
 
--- src/flushing.rt:34:1
 same-length : tie.Need-same-length
 same-length c = search needs
 
--- src/flushing.rt:34:1
 same-length-2 : tie.Need-same-length-2
 same-length-2 c = search needs
 
--- src/flushing.rt:34:1
 returns : tie.Need-returns
 unfolding callFlush
 returns c = entering-not _ _ _ _ (sym (c .before .before .before .entry-check .ensures) ∙ c .before .e .given .1)
 
--- src/flushing.rt:34:1
 same-length-3 : tie.Need-same-length-3
 same-length-3 c = search needs
 
--- src/flushing.rt:34:1
 same-length-4 : tie.Need-same-length-4
 same-length-4 c = search needs
 
--- src/flushing.rt:34:1
 returns-2 : tie.Need-returns-2
 unfolding callFlush
 returns-2 c = checked-refuse _ _ _ _ (sym (flush-looks _ _ _ _ _ _ _ _ _ _) ∙ sym (c .before .before .before .flush-check .ensures) ∙ c .before .k .given .1) ∙ entering-go _ _ _ _ (sym (c .before .before .before .before .before .before .before .before .entry-check .ensures) ∙ c .before .before .before .before .before .before .e2 .given .1)
 
--- src/flushing.rt:34:1
 same-length-5 : tie.Need-same-length-5
 same-length-5 c = search needs
 
--- src/flushing.rt:34:1
 same-length-6 : tie.Need-same-length-6
 same-length-6 c = search needs
 
--- src/flushing.rt:34:1
 returns-3 : tie.Need-returns-3
 unfolding callFlush
 returns-3 c = flush-out _ _ _ _ _ _ _ _ _ _ _ (c .before .before .before .before .flush-apply .ensures .0) (c .before .before .before .before .flush-apply .ensures .1) ∙ checked-pass _ _ _ (sym (flush-looks _ _ _ _ _ _ _ _ _ _) ∙ sym (c .before .before .before .before .before .before .before .before .before .flush-check .ensures) ∙ c .before .before .before .before .before .before .before .enum-told .given .1) ∙ entering-go _ _ _ _ (sym (c .before .before .before .before .before .before .before .before .before .before .before .before .before .before .entry-check .ensures) ∙ c .before .before .before .before .before .before .before .before .before .before .before .before .e2 .given .1)

@@ -17,31 +17,24 @@ Inv-loop received work₀ n t o f₀ work f = (f ≤ 8) × (length work ≡ 6 + 
 abbrev μ-loop : tie.MeasureT-loop
 μ-loop received work₀ n t o f₀ work f = 8 - f
 
--- src/reading.rt:46:5
 loop-holds : tie.Need-loop-holds Inv-loop μ-loop
 loop-holds c = (omega arith, c .before .before .pre .0 .1, learned-none _ _ _ _ _)
 
--- src/reading.rt:47:9
 learn-word-requires : tie.Need-learn-word-requires Inv-loop μ-loop
 learn-word-requires c κs = search needs
 
--- src/reading.rt:46:9
 add-f : tie.Need-add-f Inv-loop μ-loop
 add-f c = search needs
 
--- src/reading.rt:46:5
 loop-less : tie.Need-loop-less Inv-loop μ-loop
 loop-less c = search needs
 
--- src/reading.rt:46:5
 loop-again : tie.Need-loop-again Inv-loop μ-loop
 loop-again c = (omega arith, omega (arith, c .before .before .learn-word .kept .1), learned-next _ _ _ _ _ _ _ _ (c .before .before .before .before .before .loop .inv .2) (c .before .before .learn-word .ensures))
 
--- src/reading.rt:41:1
 same-length : tie.Need-same-length Inv-loop μ-loop
 same-length c = search needs
 
--- src/reading.rt:41:1
 returns : tie.Need-returns Inv-loop μ-loop
 returns c = let e : c .before .loop .f ≡ 8 = omega arith in rw e at (c .before .loop .inv .2)
 

@@ -9,43 +9,33 @@ use Rattle.objects.proofs.reading.learn_word.Lts as lts
 use Rattle.page_ops.proofs.change.word_of.Reads as word-of-reads
 use Rattle.store_ops.proofs.gain.Reads as gain-reads
 
--- src/reading.rt:34:9
 word-of-requires : tie.Need-word-of-requires
 word-of-requires c κs = search needs
 
--- src/reading.rt:36:35
 mul-gain : tie.Need-mul-gain
 mul-gain c = search needs
 
--- src/reading.rt:36:31
 add-gain : tie.Need-add-gain
 add-gain c = search needs
 
--- src/reading.rt:36:44
 cast-gain : tie.Need-cast-gain
 cast-gain c = search needs
 
--- src/reading.rt:36:44
 sub-gain : tie.Need-sub-gain
 sub-gain c = let a = c .before .before .before .before .before .args in let h = learns-facts (a .received .now) (a .o) (a .f) _ (c .before .before .word-of .ensures) (a .n) (c .before .before .before .before .before .pre .0 .3) (c .before .before .before .before .before .pre .1 .1) (c .before .before .before .before .before .pre .1 .2) (c .before .before .before .before .before .pre .1 .3) (c .before .if1 .taken) in omega arith
 
--- src/reading.rt:36:31
 add-gain-2 : tie.Need-add-gain-2
 add-gain-2 c = search needs
 
--- src/reading.rt:36:9
 gain-requires : tie.Need-gain-requires
 gain-requires c κs = let a = c .before .before .before .before .before .args in let h = learns-facts (a .received .now) (a .o) (a .f) _ (c .before .before .word-of .ensures) (a .n) (c .before .before .before .before .before .pre .0 .3) (c .before .before .before .before .before .pre .1 .1) (c .before .before .before .before .before .pre .1 .2) (c .before .before .before .before .before .pre .1 .3) (c .before .if1 .taken) in omega arith
 
--- src/reading.rt:29:1
 same-length : tie.Need-same-length
 same-length c = search needs
 
--- src/reading.rt:29:1
 returns : tie.Need-returns
 returns c = word-learned _ _ _ _ (c .before .before .before .before .before .word-of .ensures) _ _ _ _ (c .before .before .before .before .if1 .taken) (c .before .before .gain .ensures)
 
--- src/reading.rt:29:1
 returns-2 : tie.Need-returns-2
 returns-2 c = word-passed _ _ _ _ (c .before .word-of .ensures) _ _ _ (c .if1 .left)
 

@@ -11,59 +11,45 @@ use Rattle.entry.proofs.entry_check.Reads as entry-check-reads
 use Rattle.object_checks.proofs.read_check.Reads as read-check-reads
 use Rattle.objects.proofs.reading.read_apply.Reads as read-apply-reads
 
--- src/reading.rt:84:9
 entry-check-requires : tie.Need-entry-check-requires
 entry-check-requires c κs = search needs
 
--- src/reading.rt:86:20
 enum-known-e : tie.Need-enum-known-e
 enum-known-e c = search needs
 
--- src/reading.rt:87:19
 enum-known-e-2 : tie.Need-enum-known-e-2
 enum-known-e-2 c = search needs
 
--- src/reading.rt:88:17
 read-check-requires : tie.Need-read-check-requires
 read-check-requires c κs = let h = opened _ _ _ (sym (c .before .before .before .before .entry-check .ensures) ∙ c .before .before .e2 .given .1) in (h .sized .work-len, h .sized .top)
 
--- src/reading.rt:90:31
 enum-known-k : tie.Need-enum-known-k
 enum-known-k c = search needs
 
--- src/reading.rt:91:66
 enum-told : tie.Need-enum-told
 enum-told c = search needs
 
--- src/reading.rt:91:45
 read-apply-requires : tie.Need-read-apply-requires
 read-apply-requires c κs = read-ready _ _ _ _ _ _ _ _ _ (c .before .before .before .before .before .before .before .before .before .before .before .before .before .before .before .before .before .before .args .buffer .now) (sym (c .before .before .before .before .before .before .before .before .before .entry-check .ensures) ∙ c .before .before .before .before .before .before .before .e2 .given .1) (sym (c .before .before .before .before .read-check .ensures) ∙ c .before .before .enum-told .given .1)
 
--- src/reading.rt:69:1
 same-length : tie.Need-same-length
 same-length c = search needs
 
--- src/reading.rt:69:1
 returns : tie.Need-returns
 returns c = read-stopped _ _ _ _ _ _ _ _ _ _ (sym (c .before .before .before .entry-check .ensures) ∙ c .before .e .given .1)
 
--- src/reading.rt:69:1
 same-length-2 : tie.Need-same-length-2
 same-length-2 c = search needs
 
--- src/reading.rt:69:1
 returns-2 : tie.Need-returns-2
 returns-2 c = read-refused _ _ _ _ _ _ _ _ _ _ _ (sym (c .before .before .before .before .before .before .before .before .entry-check .ensures) ∙ c .before .before .before .before .before .before .e2 .given .1) (sym (c .before .before .before .read-check .ensures) ∙ c .before .k .given .1)
 
--- src/reading.rt:69:1
 same-length-3 : tie.Need-same-length-3
 same-length-3 c = search needs
 
--- src/reading.rt:69:1
 same-length-4 : tie.Need-same-length-4
 same-length-4 c = search needs
 
--- src/reading.rt:69:1
 returns-3 : tie.Need-returns-3
 returns-3 c = let z = c .before .before .before .before .read-apply .ensures in read-passed _ _ _ _ _ _ _ _ _ _ _ _ _ (sym (c .before .before .before .before .before .before .before .before .before .before .before .before .before .before .entry-check .ensures) ∙ c .before .before .before .before .before .before .before .before .before .before .before .before .e2 .given .1) (sym (c .before .before .before .before .before .before .before .before .before .read-check .ensures) ∙ c .before .before .before .before .before .before .before .enum-told .given .1) (z .0) (z .1) (z .2)
 

@@ -8,43 +8,33 @@ use Rattle.objects.proofs.setting.enter_write.Lts as lts
 use Rattle.objects.proofs.setting.prune.Reads as prune-reads
 use Rattle.store_ops.proofs.gain.Reads as gain-reads
 
--- src/setting.rt:36:31
 mul-gain : tie.Need-mul-gain
 mul-gain c = search needs
 
--- src/setting.rt:36:27
 add-gain : tie.Need-add-gain
 add-gain c = search needs
 
--- src/setting.rt:36:40
 sub-gain : tie.Need-sub-gain
 sub-gain c = search needs
 
--- src/setting.rt:36:27
 add-gain-2 : tie.Need-add-gain-2
 add-gain-2 c = search needs
 
--- src/setting.rt:36:5
 gain-requires : tie.Need-gain-requires
 gain-requires c κs = search needs
 
--- src/setting.rt:38:9
 prune-requires : tie.Need-prune-requires
 prune-requires c κs = let a = c .before .before .before .before .before .before .before .args in let h = pruned-facts (a .f) (a .old) (a .v) (c .before .if1 .taken) in let k = c .before .before .before .before .before .before .before .pre .5 (h .0) in omega arith
 
--- src/setting.rt:32:1
 same-length : tie.Need-same-length
 same-length c = search needs
 
--- src/setting.rt:32:1
 returns : tie.Need-returns
 returns c = write-prunes _ _ _ _ _ _ _ _ (c .before .before .before .before .before .before .before .gain .ensures) _ (c .before .before .before .before .if1 .taken) (c .before .before .prune .ensures)
 
--- src/setting.rt:32:1
 same-length-2 : tie.Need-same-length-2
 same-length-2 c = search needs
 
--- src/setting.rt:32:1
 returns-2 : tie.Need-returns-2
 returns-2 c = write-keeps _ _ _ _ _ _ _ _ (c .before .before .before .gain .ensures) (c .if1 .left)
 

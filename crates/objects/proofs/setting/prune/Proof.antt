@@ -8,47 +8,36 @@ use Rattle.objects.proofs.setting.prune.Lts as lts
 use Rattle.store_ops.proofs.gain.Reads as gain-reads
 use Rattle.store_ops.proofs.turn_grey.Reads as turn-grey-reads
 
--- src/setting.rt:23:19
 slice-read-marking : tie.Need-slice-read-marking
 slice-read-marking c = search needs
 
--- src/setting.rt:24:31
 mul-gain : tie.Need-mul-gain
 mul-gain c = search needs
 
--- src/setting.rt:24:27
 add-gain : tie.Need-add-gain
 add-gain c = search needs
 
--- src/setting.rt:24:41
 sub-gain : tie.Need-sub-gain
 sub-gain c = search needs
 
--- src/setting.rt:24:27
 add-gain-2 : tie.Need-add-gain-2
 add-gain-2 c = search needs
 
--- src/setting.rt:24:5
 gain-requires : tie.Need-gain-requires
 gain-requires c κs = search needs
 
--- src/setting.rt:26:9
 turn-grey-requires : tie.Need-turn-grey-requires
 turn-grey-requires c κs = search needs
 
--- src/setting.rt:19:1
 same-length : tie.Need-same-length
 same-length c = search needs
 
--- src/setting.rt:19:1
 returns : tie.Need-returns
 returns c = pruned-marking _ _ _ _ _ _ (c .before .before .before .before .before .before .before .gain .ensures) (c .before .before .before .before .if1 .taken) (c .before .before .turn-grey .ensures)
 
--- src/setting.rt:19:1
 same-length-2 : tie.Need-same-length-2
 same-length-2 c = search needs
 
--- src/setting.rt:19:1
 returns-2 : tie.Need-returns-2
 returns-2 c = pruned-idle _ _ _ _ _ (c .before .before .before .gain .ensures) (c .if1 .left)
 

@@ -9,35 +9,27 @@ use Rattle.objects.proofs.setting.enter_write.Reads as enter-write-read
 use Rattle.page_ops.proofs.change.word_of.Reads as word-of-reads
 use Rattle.store_ops.proofs.append.Reads as append-reads
 
--- src/setting.rt:56:9
 word-of-requires : tie.Need-word-of-requires
 word-of-requires c κs = search needs
 
--- src/setting.rt:65:5
 enter-write-requires : tie.Need-enter-write-requires
 enter-write-requires c κs = let p = c .before .before .before .before .before .before .before .pre in let e = c .before .word-of .ensures in (p .2, p .3, p .4, p .5, p .6, λ l. (let k = p .8 l in omega arith))
 
--- src/setting.rt:66:5
 append-requires : tie.Need-append-requires
 append-requires c κs = let e = c .before .before .before .before .before .before .before .word-of .ensures in let p = c .before .before .before .before .before .before .before .before .before .before .before .before .before .pre in rw e (p .0)
 
--- src/setting.rt:42:1
 same-length : tie.Need-same-length
 same-length c = search needs
 
--- src/setting.rt:42:1
 same-length-2 : tie.Need-same-length-2
 same-length-2 c = search needs
 
--- src/setting.rt:42:1
 same-length-3 : tie.Need-same-length-3
 same-length-3 c = search needs
 
--- src/setting.rt:42:1
 same-length-4 : tie.Need-same-length-4
 same-length-4 c = search needs
 
--- src/setting.rt:42:1
 returns : tie.Need-returns
 returns c = let e = c .before .before .before .before .before .before .before .before .before .before .before .before .before .before .word-of .ensures in let z = c .before .before .before .before .before .before .append .ensures in (z .0, cc, cc, z .3, cc)
 

@@ -1,6 +1,6 @@
 use borrow.Author.Needs.{needs}
 use native.Mathlib.Omega.{arith}
-use mathlib.Core.Path.{_≡_, refl, sym, ap, _∙_}
+use mathlib.Core.Path.{_≡_, sym, _∙_}
 use Prim.Native.Nat.{_≤_, _-_}
 use borrow.Author.Tests.{not-true, not-false}
 use mathlib.Core.Bool.{true}
@@ -9,9 +9,6 @@ use Rattle.pages.specs.Soundness.{freeZero}
 use Rattle.records.specs.Recovery.{recovered}
 use Rattle.recovering.proofs.check.all_recover.Statement.{statement}
 use Rattle.recovering.proofs.check.all_recover.Tie as tie
-use Rattle.recovering.proofs.check.all_recover.Reads as reads
-use Rattle.recovering.proofs.check.all_recover.Lts as lts
-use Rattle.page_replay.proofs.recovers.Reads as recovers-reads
 
 abbrev Inv-loop : tie.InvT-loop
 Inv-loop stored log n c m p₀ p = (p ≤ n) × (all (freeZero (recovered stored log c)) p ≡ true)
@@ -19,31 +16,24 @@ Inv-loop stored log n c m p₀ p = (p ≤ n) × (all (freeZero (recovered stored
 abbrev μ-loop : tie.MeasureT-loop
 μ-loop stored log n c m p₀ p = n - p
 
--- src/check.rt:20:5
 loop-holds : tie.Need-loop-holds Inv-loop μ-loop
 loop-holds c = (omega arith, all-none _)
 
--- src/check.rt:21:13
 recovers-requires : tie.Need-recovers-requires Inv-loop μ-loop
 recovers-requires c κs = let h = c .before .before .before .before .pre in (h .0, c .loop-test .taken, h .1, h .2, h .3, h .4)
 
--- src/check.rt:22:13
 returns : tie.Need-returns Inv-loop μ-loop
 returns c = all-out _ _ _ (c .before .before .loop-test .taken) (sym (c .before .recovers .ensures) ∙ not-true _ (c .if1 .taken))
 
--- src/check.rt:20:9
 add-p : tie.Need-add-p Inv-loop μ-loop
 add-p c = search needs
 
--- src/check.rt:20:5
 loop-less : tie.Need-loop-less Inv-loop μ-loop
 loop-less c = search needs
 
--- src/check.rt:20:5
 loop-again : tie.Need-loop-again Inv-loop μ-loop
 loop-again c = (omega arith, all-more _ _ (c .before .before .before .loop .inv .1) (sym (c .before .recovers .ensures) ∙ not-false _ (c .if1 .left)))
 
--- src/check.rt:16:1
 returns-2 : tie.Need-returns-2 Inv-loop μ-loop
 returns-2 c = all-end _ _ _ (c .before .loop .inv .0) (c .loop-test .left) (c .before .loop .inv .1)
 

@@ -6,58 +6,40 @@ use Rattle.recovering.specs.Reading.{scan-open, scan-clash, found-count,
 use borrow.Author.Needs.{needs}
 use Rattle.recovering.proofs.check.find_open.Statement.{statement}
 use Rattle.recovering.proofs.check.find_open.Tie as tie
-use Rattle.recovering.proofs.check.find_open.Reads as reads
-use Rattle.recovering.proofs.check.find_open.Lts as lts
-use Rattle.page_ops.proofs.sound.area_sound.Reads as area-sound-reads
-use Rattle.record_ops.proofs.log_sound.Reads as log-sound-reads
-use Rattle.recovering.proofs.check.all_recover.Reads as all-recover-reads
-use Rattle.recovering.proofs.reading.open_after.Reads as open-after-reads
 
--- src/check.rt:34:9
 returns : tie.Need-returns
 returns c = found-count _ _ _ _ _ (c .if1 .taken)
 
--- src/check.rt:36:9
 area-sound-requires : tie.Need-area-sound-requires
 area-sound-requires c κs = search needs
 
--- src/check.rt:37:9
 returns-2 : tie.Need-returns-2
 returns-2 c = found-stored _ _ _ _ _ (sym (c .before .area-sound .ensures) ∙ not-true _ (c .if2 .taken))
 
--- src/check.rt:39:9
 log-sound-requires : tie.Need-log-sound-requires
 log-sound-requires c κs = search needs
 
--- src/check.rt:40:9
 returns-3 : tie.Need-returns-3
 returns-3 c = found-log _ _ _ _ _ (sym (c .before .log-sound .ensures) ∙ not-true _ (c .if3 .taken))
 
--- src/check.rt:42:25
 open-after-requires : tie.Need-open-after-requires
 open-after-requires c κs = search needs
 
--- src/check.rt:42:20
 enum-known-m : tie.Need-enum-known-m
 enum-known-m c = search needs
 
--- src/check.rt:43:29
 enum-told : tie.Need-enum-told
 enum-told c = search needs
 
--- src/check.rt:43:9
 returns-4 : tie.Need-returns-4
 returns-4 c = scan-clash _ _ _ _ (sym (c .before .before .before .before .log-sound .ensures) ∙ not-false _ (c .before .before .before .if3 .left)) (sym (c .before .before .open-after .ensures) ∙ c .enum-told .given .1)
 
--- src/check.rt:45:9
 all-recover-requires : tie.Need-all-recover-requires
 all-recover-requires c κs = let h = c .before .before .before .before .before .before .before .before .before .before .before .pre in let l = c .before .before .before .before .before .before .before .before .if1 .left in (h .1, h .2, omega arith, log-sound-records _ _ _ (sym (c .before .before .before .before .before .log-sound .ensures) ∙ not-false _ (c .before .before .before .before .if3 .left)), scan-open _ _ _ _ (sym (c .before .before .before .before .before .log-sound .ensures) ∙ not-false _ (c .before .before .before .before .if3 .left)) (sym (c .before .before .before .open-after .ensures) ∙ c .before .m .given .1))
 
--- src/check.rt:46:9
 returns-5 : tie.Need-returns-5
 returns-5 c = found-free _ _ _ _ _ (sym (c .before .all-recover .ensures) ∙ not-true _ (c .if4 .taken))
 
--- src/check.rt:29:1
 returns-6 : tie.Need-returns-6
 returns-6 c = found-open _ _ _ _ _ _ (c .before .before .before .before .before .before .before .before .before .before .if1 .left) (sym (c .before .before .before .before .before .before .before .before .before .area-sound .ensures) ∙ not-false _ (c .before .before .before .before .before .before .before .before .if2 .left)) (sym (c .before .before .before .before .before .before .before .log-sound .ensures) ∙ not-false _ (c .before .before .before .before .before .before .if3 .left)) (scan-open _ _ _ _ (sym (c .before .before .before .before .before .before .before .log-sound .ensures) ∙ not-false _ (c .before .before .before .before .before .before .if3 .left)) (sym (c .before .before .before .before .before .open-after .ensures) ∙ c .before .before .before .m .given .1)) (sym (c .before .all-recover .ensures) ∙ not-false _ (c .if4 .left))
 

@@ -1,15 +1,12 @@
 use borrow.Author.Needs.{needs}
 use native.Mathlib.Omega.{arith}
-use mathlib.Core.Path.{_≡_, refl, sym, ap, _∙_}
+use mathlib.Core.Path.{_≡_, refl}
 use Prim.Native.Nat.{_≤_, _-_}
-use lib.ListN.{length, getD, length-set}
-use Prim.Native.Nat.{ℕ}
+use lib.ListN.{length}
 use Rattle.page_replay.specs.Pages.{FilledTo, filled-next}
 use Rattle.recovering.specs.Rebuilding.{filled-zero}
 use Rattle.recovering.proofs.making.clear.Statement.{statement}
 use Rattle.recovering.proofs.making.clear.Tie as tie
-use Rattle.recovering.proofs.making.clear.Reads as reads
-use Rattle.recovering.proofs.making.clear.Lts as lts
 
 abbrev Inv-loop : tie.InvT-loop
 Inv-loop a₀ i₀ i-end a i = (i ≤ length a₀) × (i-end ≡ length a₀) × (length a ≡ length a₀) × FilledTo a (λ k. 0) i
@@ -17,35 +14,27 @@ Inv-loop a₀ i₀ i-end a i = (i ≤ length a₀) × (i-end ≡ length a₀) ×
 abbrev μ-loop : tie.MeasureT-loop
 μ-loop a₀ i₀ i-end a i = length a₀ - i
 
--- src/making.rt:25:5
 loop-holds : tie.Need-loop-holds Inv-loop μ-loop
 loop-holds c = (omega arith, refl, refl, λ k l. absurd (omega arith))
 
--- src/making.rt:26:9
 mul-a : tie.Need-mul-a Inv-loop μ-loop
 mul-a c = search needs
 
--- src/making.rt:26:9
 slice-write-a : tie.Need-slice-write-a Inv-loop μ-loop
 slice-write-a c = search needs
 
--- src/making.rt:25:9
 add-i : tie.Need-add-i Inv-loop μ-loop
 add-i c = search needs
 
--- src/making.rt:25:5
 loop-less : tie.Need-loop-less Inv-loop μ-loop
 loop-less c = search needs
 
--- src/making.rt:25:5
 loop-again : tie.Need-loop-again Inv-loop μ-loop
 loop-again c = (search needs, search needs, search needs, filled-next (c .before .loop .a) (λ k. 0) (length (c .before .before .args .a .now)) (c .before .loop .i) (c .before .loop .inv .2) (omega arith) (c .before .loop .inv .3))
 
--- src/making.rt:22:1
 same-length : tie.Need-same-length Inv-loop μ-loop
 same-length c = search needs
 
--- src/making.rt:22:1
 returns : tie.Need-returns Inv-loop μ-loop
 returns c = filled-zero (c .before .loop .a) (length (c .before .before .args .a .now)) (c .before .loop .i) (c .before .loop .inv .2) (omega arith) (c .before .loop .inv .3)
 

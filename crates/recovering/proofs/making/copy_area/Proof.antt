@@ -1,14 +1,12 @@
 use borrow.Author.Needs.{needs}
 use native.Mathlib.Omega.{arith}
-use mathlib.Core.Path.{_≡_, refl, sym, ap, _∙_}
+use mathlib.Core.Path.{_≡_, refl}
 use Prim.Native.Nat.{_≤_, _-_}
-use lib.ListN.{length, getD, length-set}
+use lib.ListN.{length, getD}
 use Rattle.page_replay.specs.Pages.{FilledTo, filled-next}
 use Rattle.recovering.specs.Rebuilding.{filled-same}
 use Rattle.recovering.proofs.making.copy_area.Statement.{statement}
 use Rattle.recovering.proofs.making.copy_area.Tie as tie
-use Rattle.recovering.proofs.making.copy_area.Reads as reads
-use Rattle.recovering.proofs.making.copy_area.Lts as lts
 
 abbrev Inv-loop : tie.InvT-loop
 Inv-loop from to₀ i₀ i-end to i = (i ≤ length from) × (i-end ≡ length from) × (length to ≡ length from) × FilledTo to (λ k. getD from k 0) i
@@ -16,43 +14,33 @@ Inv-loop from to₀ i₀ i-end to i = (i ≤ length from) × (i-end ≡ length f
 abbrev μ-loop : tie.MeasureT-loop
 μ-loop from to₀ i₀ i-end to i = length from - i
 
--- src/making.rt:16:5
 loop-holds : tie.Need-loop-holds Inv-loop μ-loop
 loop-holds c = (omega arith, refl, c .pre, λ k l. absurd (omega arith))
 
--- src/making.rt:17:17
 mul-to : tie.Need-mul-to Inv-loop μ-loop
 mul-to c = search needs
 
--- src/making.rt:17:17
 shared-slice-read-to : tie.Need-shared-slice-read-to Inv-loop μ-loop
 shared-slice-read-to c = search needs
 
--- src/making.rt:17:9
 mul-to-2 : tie.Need-mul-to-2 Inv-loop μ-loop
 mul-to-2 c = search needs
 
--- src/making.rt:17:9
 slice-write-to : tie.Need-slice-write-to Inv-loop μ-loop
 slice-write-to c = search needs
 
--- src/making.rt:16:9
 add-i : tie.Need-add-i Inv-loop μ-loop
 add-i c = search needs
 
--- src/making.rt:16:5
 loop-less : tie.Need-loop-less Inv-loop μ-loop
 loop-less c = search needs
 
--- src/making.rt:16:5
 loop-again : tie.Need-loop-again Inv-loop μ-loop
 loop-again c = (search needs, search needs, search needs, filled-next (c .before .before .loop .to) (λ k. getD (c .before .before .before .args .from .now) k 0) (length (c .before .before .before .args .from .now)) (c .before .before .loop .i) (c .before .before .loop .inv .2) (omega arith) (c .before .before .loop .inv .3))
 
--- src/making.rt:12:1
 same-length : tie.Need-same-length Inv-loop μ-loop
 same-length c = search needs
 
--- src/making.rt:12:1
 returns : tie.Need-returns Inv-loop μ-loop
 returns c = filled-same (c .before .loop .to) (c .before .before .args .from .now) (c .before .loop .i) (c .before .loop .inv .2) (omega arith) (c .before .loop .inv .3)
 

@@ -1,40 +1,27 @@
-use native.Mathlib.Omega.{arith}
-use mathlib.Core.Path.{_≡_, refl, sym, ap, _∙_}
+use mathlib.Core.Path.{_∙_}
 use Rattle.recovering.specs.Rebuilding.{sound-copied, sound-redone, rebuilt}
 use borrow.Author.Needs.{needs}
 use Rattle.recovering.proofs.making.rebuild.Statement.{statement}
 use Rattle.recovering.proofs.making.rebuild.Tie as tie
-use Rattle.recovering.proofs.making.rebuild.Reads as reads
-use Rattle.recovering.proofs.making.rebuild.Lts as lts
-use Rattle.recovering.proofs.making.copy_area.Reads as copy-area-reads
-use Rattle.recovering.proofs.making.redo.Reads as redo-reads
-use Rattle.recovering.proofs.making.undo.Reads as undo-reads
 
--- src/making.rt:78:5
 copy-area-requires : tie.Need-copy-area-requires
 copy-area-requires c κs = search needs
 
--- src/making.rt:79:5
 redo-requires : tie.Need-redo-requires
 redo-requires c κs = (c .before .before .before .before .before .before .before .before .before .pre .2, sound-copied (c .before .before .before .before .before .before .before .before .before .args .stored .now) _ _ _ (c .before .before .before .copy-area .ensures) (c .before .before .before .before .before .before .before .before .before .pre .3))
 
--- src/making.rt:80:5
 undo-requires : tie.Need-undo-requires
 undo-requires c κs = (c .before .before .before .before .before .before .before .before .before .before .before .before .before .pre .2, sound-redone (c .before .before .before .before .before .before .before .before .before .before .before .before .before .args .stored .now) _ _ _ _ (c .before .before .before .before .before .before .before .copy-area .ensures) (c .before .before .before .redo .ensures) (c .before .before .before .before .before .before .before .before .before .before .before .before .before .pre .3))
 
--- src/making.rt:81:5
 copy-area-requires-2 : tie.Need-copy-area-requires-2
 copy-area-requires-2 c κs = search needs
 
--- src/making.rt:67:1
 same-length : tie.Need-same-length
 same-length c = search needs
 
--- src/making.rt:67:1
 same-length-2 : tie.Need-same-length-2
 same-length-2 c = search needs
 
--- src/making.rt:67:1
 returns : tie.Need-returns
 returns c = (c .before .before .copy-area2 .ensures ∙ (rebuilt _ _ _ _ _ _ _ (c .before .before .before .before .before .before .before .before .before .before .before .before .before .before .before .before .before .before .before .before .before .pre .4) (c .before .before .before .before .before .before .before .before .before .before .before .before .before .before .before .copy-area .ensures) (c .before .before .before .before .before .before .before .before .before .before .before .redo .ensures) (c .before .before .before .before .before .before .before .undo .ensures)), (rebuilt _ _ _ _ _ _ _ (c .before .before .before .before .before .before .before .before .before .before .before .before .before .before .before .before .before .before .before .before .before .pre .4) (c .before .before .before .before .before .before .before .before .before .before .before .before .before .before .before .copy-area .ensures) (c .before .before .before .before .before .before .before .before .before .before .before .redo .ensures) (c .before .before .before .before .before .before .before .undo .ensures)))
 

@@ -1,16 +1,12 @@
 use borrow.Author.Needs.{needs}
 use native.Mathlib.Omega.{arith}
-use mathlib.Core.Path.{_≡_, refl, sym, ap, _∙_}
+use mathlib.Core.Path.{_≡_, refl, _∙_}
 use Prim.Native.Nat.{_≤_, _-_}
-use lib.ListN.{length, getD, length-set}
+use lib.ListN.{length}
 use Rattle.records.specs.Recovery.{redone}
 use Rattle.recovering.specs.Rebuilding.{redone-turn, sound-here}
 use Rattle.recovering.proofs.making.redo.Statement.{statement}
 use Rattle.recovering.proofs.making.redo.Tie as tie
-use Rattle.recovering.proofs.making.redo.Reads as reads
-use Rattle.recovering.proofs.making.redo.Lts as lts
-use Rattle.record_ops.proofs.apply.Reads as apply-reads
-use Rattle.records.proofs.record_at.Reads as record-at-reads
 
 abbrev Inv-loop : tie.InvT-loop
 Inv-loop a₀ log c i₀ a i = (i ≤ c) × (length a ≡ length a₀) × (a ≡ redone a₀ log i)
@@ -18,36 +14,28 @@ Inv-loop a₀ log c i₀ a i = (i ≤ c) × (length a ≡ length a₀) × (a ≡
 abbrev μ-loop : tie.MeasureT-loop
 μ-loop a₀ log c i₀ a i = c - i
 
--- src/making.rt:35:5
 loop-holds : tie.Need-loop-holds Inv-loop μ-loop
 unfolding redone
 loop-holds c = (omega arith, refl, refl)
 
--- src/making.rt:36:30
 record-at-requires : tie.Need-record-at-requires Inv-loop μ-loop
 record-at-requires c κs = search needs
 
--- src/making.rt:36:9
 apply-requires : tie.Need-apply-requires Inv-loop μ-loop
 apply-requires c κs = sound-here (c .before .before .before .before .before .before .args .a .now) (c .before .before .before .loop .a) (c .before .before .before .before .before .before .args .log .now) (c .before .before .before .before .before .before .args .c) (c .before .before .before .loop .i) (c .record-at .result) (c .before .before .before .loop .inv .1) (c .record-at .ensures) (c .before .before .before .before .before .before .pre .1) (c .before .before .loop-test .taken)
 
--- src/making.rt:35:9
 add-i : tie.Need-add-i Inv-loop μ-loop
 add-i c = search needs
 
--- src/making.rt:35:5
 loop-less : tie.Need-loop-less Inv-loop μ-loop
 loop-less c = search needs
 
--- src/making.rt:35:5
 loop-again : tie.Need-loop-again Inv-loop μ-loop
 loop-again c = (omega arith, search needs, c .before .before .apply .ensures ∙ redone-turn _ _ _ _ _ (c .before .before .before .before .before .before .loop .inv .2) (c .before .before .before .record-at .ensures))
 
--- src/making.rt:31:1
 same-length : tie.Need-same-length Inv-loop μ-loop
 same-length c = search needs
 
--- src/making.rt:31:1
 returns : tie.Need-returns Inv-loop μ-loop
 returns c = let e : c .before .loop .i ≡ c .before .before .before .before .args .c = omega arith in rw e at (c .before .loop .inv .2)
 

@@ -1,40 +1,29 @@
-use native.Mathlib.Omega.{arith}
-use mathlib.Core.Path.{_≡_, refl, sym, ap, _∙_}
+use mathlib.Core.Path.{refl, ap}
 use mathlib.Core.List.{List}
 use Prim.Native.Nat.{ℕ}
 use lib.ListN.{set}
 use borrow.Author.Needs.{needs}
 use Rattle.recovering.proofs.making.restart.Statement.{statement}
 use Rattle.recovering.proofs.making.restart.Tie as tie
-use Rattle.recovering.proofs.making.restart.Reads as reads
-use Rattle.recovering.proofs.making.restart.Lts as lts
-use Rattle.recovering.proofs.making.clear.Reads as clear-reads
 
--- src/making.rt:89:17
 slice-read-counts : tie.Need-slice-read-counts
 slice-read-counts c = search needs
 
--- src/making.rt:89:5
 slice-write-counts : tie.Need-slice-write-counts
 slice-write-counts c = search needs
 
--- src/making.rt:90:5
 clear-requires : tie.Need-clear-requires
 clear-requires c κs = search needs
 
--- src/making.rt:91:5
 slice-write-work : tie.Need-slice-write-work
 slice-write-work c = search needs
 
--- src/making.rt:85:1
 same-length : tie.Need-same-length
 same-length c = search needs
 
--- src/making.rt:85:1
 same-length-2 : tie.Need-same-length-2
 same-length-2 c = search needs
 
--- src/making.rt:85:1
 returns : tie.Need-returns
 returns c = (refl, ap (λ (l : List ℕ). set l 0 1) (c .before .before .clear .ensures))
 

@@ -1,6 +1,6 @@
 use borrow.Author.Needs.{needs}
 use native.Mathlib.Omega.{arith}
-use mathlib.Core.Path.{_≡_, refl, sym, ap, _∙_}
+use mathlib.Core.Path.{_≡_, refl, sym, _∙_}
 use Prim.Native.Nat.{_≤_, _-_}
 use mathlib.Core.Bool.{true}
 use Rattle.records.specs.Soundness.{recordsSound}
@@ -8,10 +8,6 @@ use Rattle.records.specs.Order.{openIn}
 use Rattle.recovering.specs.Reading.{records-none, scan-bad, txn-read, sound-next, open-read, scan-end}
 use Rattle.recovering.proofs.reading.open_after.Statement.{statement}
 use Rattle.recovering.proofs.reading.open_after.Tie as tie
-use Rattle.recovering.proofs.reading.open_after.Reads as reads
-use Rattle.recovering.proofs.reading.open_after.Lts as lts
-use Rattle.record_ops.proofs.open_next.Reads as open-next-reads
-use Rattle.recovering.proofs.reading.read_record.Reads as read-record-reads
 
 abbrev Inv-loop : tie.InvT-loop
 Inv-loop log n c begun₀ i₀ begun i = (i ≤ c) × (recordsSound n log i ≡ true) × (begun ≡ openIn log i)
@@ -19,44 +15,34 @@ Inv-loop log n c begun₀ i₀ begun i = (i ≤ c) × (recordsSound n log i ≡ 
 abbrev μ-loop : tie.MeasureT-loop
 μ-loop log n c begun₀ i₀ begun i = c - i
 
--- src/reading.rt:29:5
 loop-holds : tie.Need-loop-holds Inv-loop μ-loop
 unfolding openIn
 loop-holds c = (omega arith, records-none _ _, refl)
 
--- src/reading.rt:30:30
 read-record-requires : tie.Need-read-record-requires Inv-loop μ-loop
 read-record-requires c κs = search needs
 
--- src/reading.rt:30:25
 enum-known-r : tie.Need-enum-known-r Inv-loop μ-loop
 enum-known-r c = search needs
 
--- src/reading.rt:31:33
 enum-told : tie.Need-enum-told Inv-loop μ-loop
 enum-told c = search needs
 
--- src/reading.rt:31:13
 returns : tie.Need-returns Inv-loop μ-loop
 returns c = scan-bad _ _ _ _ (c .before .before .before .loop-test .taken) (sym (c .before .before .read-record .ensures) ∙ c .enum-told .given .1)
 
--- src/reading.rt:33:9
 open-next-requires : tie.Need-open-next-requires Inv-loop μ-loop
 open-next-requires c κs = txn-read _ _ _ _ (sym (c .before .before .before .read-record .ensures) ∙ c .before .r .given .1)
 
--- src/reading.rt:29:9
 add-i : tie.Need-add-i Inv-loop μ-loop
 add-i c = search needs
 
--- src/reading.rt:29:5
 loop-less : tie.Need-loop-less Inv-loop μ-loop
 loop-less c = search needs
 
--- src/reading.rt:29:5
 loop-again : tie.Need-loop-again Inv-loop μ-loop
 loop-again c = (omega arith, sound-next _ _ _ _ (c .before .before .before .before .before .before .loop .inv .1) (sym (c .before .before .before .before .read-record .ensures) ∙ c .before .before .r .given .1), c .open-next .ensures ∙ open-read _ _ _ _ _ (c .before .before .before .before .before .before .loop .inv .2) (sym (c .before .before .before .before .read-record .ensures) ∙ c .before .before .r .given .1))
 
--- src/reading.rt:24:1
 returns-2 : tie.Need-returns-2 Inv-loop μ-loop
 returns-2 c = scan-end _ _ _ _ _ (c .before .loop .inv .0) (c .loop-test .left) (c .before .loop .inv .1) (c .before .loop .inv .2)
 
