@@ -25,7 +25,7 @@ fn undo_at(
     requires { ⌜ (6 * i + 6 ≤ length (now log)) × (0 < left) × (isChange (recordAt (now log) i) t ≡ true → Fits (now received) (now log) (now counts) (effects.undoing (recordAt (now log) i))) ⌝ }
     ensures { λ x. ⌜ (x ≡ if (isChange (recordAt (now (log .entry)) i) t) (left - 1) left) × (areas [] [] (now (received .exit)) (now (log .exit)) (now (counts .exit)) [] ≡ undoneBy (recordAt (now (log .entry)) i) t (areas [] [] (now (received .entry)) (now (log .entry)) (now (counts .entry)) [])) ⌝ }
 {
-    let r = records::record_at(log, i);
+    let r = log_reader::record_at(log, i);
     if ((r.kind == 2) | (r.kind == 3)) & (r.txn == t) {
         let _ = store_ops::append(received, log, counts, record_ops::undoing(r));
         return left - 1;

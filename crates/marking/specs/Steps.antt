@@ -38,11 +38,11 @@ module _ (w : List ℕ) (n o : ℕ) (found : o ≡ lowestGrey w n) where
   unfolding markValue
   value-turn h = sym (if-f _ _ _ (lt-leb _ _ (rw found at h)))
 
-  module _ (c : List ℕ) (steps : ℕ) (next : steps ≡ stepsNext w n) where
-    pub work-scan : (x : List ℕ) → o ≤ 16 * n → x ≡ scanned c w n o → withPass x 1 (at w passPageAt) steps ≡ markWork c w n
+  module _ (c y : List ℕ) where
+    pub work-scan : (x : List ℕ) → o ≤ 16 * n → x ≡ scanned c w n o → y ≡ withPass x 1 (at w passPageAt) (stepsNext w n) → y ≡ markWork c w n
     unfolding markWork
-    work-scan x h e = rw (e, next, found) (sym (if-t _ _ _ (le-leb _ _ (rw found at h))))
+    work-scan x h e k = k ∙ rw (e, found) (sym (if-t _ _ _ (le-leb _ _ (rw found at h))))
 
-    pub work-turn : 16 * n < o → withPass w 2 0 steps ≡ markWork c w n
+    pub work-turn : 16 * n < o → y ≡ withPass w 2 (passFirst w n) (stepsNext w n) → y ≡ markWork c w n
     unfolding markWork
-    work-turn h = rw next (sym (if-f _ _ _ (lt-leb _ _ (rw found at h))))
+    work-turn h k = k ∙ sym (if-f _ _ _ (lt-leb _ _ (rw found at h)))

@@ -1,32 +1,14 @@
-// The pass record, the start of a pass, and one marking step.
+// The start of a pass, and one marking step.
 ghost use mathlib.Core.Path.{_≡_};
 ghost use mathlib.Core.Bool.{Bool};
 ghost use Prim.Native.Nat.{_+_, _*_, _<_, _≤_};
 ghost use lib.ListN.{length};
-ghost use Rattle.areas.specs.Tables.{withPass, stepsNext};
 ghost use Rattle.calls.specs.Pass.{lowestGrey, scanned, passStarted};
+ghost use Rattle.pass_record.specs.Step.{passOf};
 ghost use Rattle.marking.specs.Colours.{colourBy, firstColours, targetsOf};
 ghost use Rattle.marking.specs.Steps.{markValue, markWork};
 use page_ops::change;
-
-// The pass record: phase, page and step number.
-pub fn put_pass(work: &mut [u32], phase: u32, page: u32, steps: u32)
-    requires { ⌜ 6 ≤ length (now work) ⌝ }
-    ensures { λ _. ⌜ now (work .exit) ≡ withPass (now (work .entry)) phase page steps ⌝ }
-{
-    work[2] = phase;
-    work[3] = page;
-    work[4] = steps;
-}
-
-// The number of the next step; at its bound, which no calls lead to, it stays.
-pub fn steps_next(work: &[u32], n: usize) -> u32
-    requires { ⌜ (6 ≤ length (now work)) × (n ≤ 256) ⌝ }
-    ensures { λ r. ⌜ r ≡ stepsNext (now (work .entry)) n ⌝ }
-{
-    let most = 17 * (n as u32);
-    if work[4] < most { work[4] + 1 } else { most }
-}
+use pass_record::Pass;
 
 // The first colour of an object with PRT mask m: grey for the root and for a target, else white.
 fn first_colour(m: u32, rooted: bool) -> u32
@@ -53,7 +35,12 @@ pub fn begin_pass(work: &mut [u32], n: usize)
     store_ops::leave_all(work, 6 + 19 * n, 16 * n, 16);
     store_ops::leave_all(work, 6 + 35 * n, 16 * n, 16);
     colour_first(work, n);
-    put_pass(work, 1, 0, 0);
+    let first = Pass {
+        phase: 1,
+        page: 0,
+        steps: 0,
+    };
+    pass_record::put_pass(work, first);
 }
 
 // The lowest grey object; 16 × n + 1 where there is none.
@@ -92,19 +79,17 @@ fn scan_object(copies: &[u32], work: &mut [u32], n: usize, o: u32)
 }
 
 // A marking step: the lowest grey object is scanned, or the pass turns to sweeping. Answers the object.
-pub fn mark_step(copies: &[u32], work: &mut [u32], n: usize) -> u32
-    requires { ⌜ (length (now copies) ≡ 129 * n) × (length (now work) ≡ 6 + 67 * n) × (n ≤ 256) ⌝ }
+pub fn mark_step(copies: &[u32], work: &mut [u32], n: usize, pass: Pass) -> u32
+    requires { ⌜ (length (now copies) ≡ 129 * n) × (length (now work) ≡ 6 + 67 * n) × (n ≤ 256) × (pass .page < n) × (pass .phase ≡ 1) × (pass ≡ passOf (now work)) ⌝ }
     ensures { λ r. ⌜ r ≡ markValue (now (work .entry)) n ⌝ }
     ensures { λ _. ⌜ now (work .exit) ≡ markWork (now (copies .entry)) (now (work .entry)) n ⌝ }
 {
-    let steps = steps_next(work, n);
     let o = lowest_grey(work, n);
     if 16 * (n as u32) < o {
-        put_pass(work, 2, 0, steps);
+        pass_record::put_pass(work, pass_record::advanced(pass, n, false));
         return 0;
     }
-    let page = work[3];
     scan_object(copies, work, n, o);
-    put_pass(work, 1, page, steps);
+    pass_record::put_pass(work, pass_record::advanced(pass, n, true));
     o
 }

@@ -19,7 +19,7 @@ fn prune(work: &mut [u32], n: usize, t: u32, x: u32)
     requires { ⌜ (length (now work) ≡ 6 + 67 * n) × (n ≤ 256) × (t < 16) × (1 ≤ x) × (x ≤ 16 * n) ⌝ }
     ensures { λ _. ⌜ now (work .exit) ≡ pruned (now (work .entry)) n t x ⌝ }
 {
-    let marking = work[2] == 1;
+    let marking = pass_record::pass_of(work).phase == 1;
     store_ops::gain(work, 6 + 19 * n + (x as usize - 1), t);
     if marking {
         store_ops::turn_grey(work, n, x);

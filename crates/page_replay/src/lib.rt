@@ -116,7 +116,7 @@ fn redo_page(page: &mut [u32], log: &[u32], c: usize, p: usize)
     ensures { λ _. ⌜ now (page .exit) ≡ redonePage p (now (page .entry)) (now (log .entry)) c ⌝ }
 {
     for i in 0..c {
-        play_on(page, p, records::record_at(log, i));
+        play_on(page, p, log_reader::record_at(log, i));
     }
 }
 
@@ -129,7 +129,7 @@ fn undo_page(page: &mut [u32], log: &[u32], c: usize, m: u32, p: usize)
     let mut i = c;
     while 0 < i {
         i -= 1;
-        let r = records::record_at(log, i);
+        let r = log_reader::record_at(log, i);
         unplay_on(page, p, left, r);
         left = leave(left, r);
     }

@@ -53,30 +53,30 @@ module _ (s c r g k w : List ℕ) (n : ℕ) (runs : at w phaseAt ≡ 0 → ⊥) 
   step-marks v w′ h e f =
       rw (e, f) (marked-as (areas s c r g k w) n) ∙ sym (if-t _ _ _ (eq-eqb (at w phaseAt) 1 h)) ∙ checked-pass _ _ _ running
 
-  module _ (sweeps : at w phaseAt ≡ 1 → ⊥) (m : ℕ) (freed : m ≡ freedIn c w n (at w passPageAt)) where
+  module _ (sweeps : at w phaseAt ≡ 1 → ⊥) (p m : ℕ) (page : p ≡ at w passPageAt) (freed : m ≡ freedIn c w n p) where
     by-sweep : (o : Out) → o ≡ swept (areas s c r g k w) n → o ≡ stepFrom (areas s c r g k w) n
     by-sweep o e = e ∙ sym (if-f _ _ _ (ne-eqb (at w phaseAt) 1 sweeps)) ∙ checked-pass _ _ _ running
 
     map-freed : m ≡ freedMap (areas s c r g k w) n (at w passPageAt)
-    map-freed = freed ∙ freed-in s c r g k w n (at w passPageAt)
+    map-freed = freed ∙ ap (freedIn c w n) page ∙ freed-in s c r g k w n (at w passPageAt)
 
     pub step-full : (x : Refusal) → sweepNeeds g k w m ≡ Refuse x → refused x (areas s c r g k w) ≡ stepFrom (areas s c r g k w) n
     unfolding swept
     step-full x h = by-sweep _ (checked-refuse _ _ _ _ (ap (sweepCheck (areas s c r g k w)) (sym map-freed) ∙ sym (sweep-needs s c r g k w m) ∙ h))
 
-    pub step-sweeps : (v : ℕ) (a : Areas) → sweepNeeds g k w m ≡ Pass → v ≡ slotsSet m → a ≡ sweptAreas (areas s c r g k w) n (at w passPageAt) m
+    pub step-sweeps : (v : ℕ) (a : Areas) → sweepNeeds g k w m ≡ Pass → v ≡ slotsSet m → a ≡ sweptAreas (areas s c r g k w) n p m
         → done v a ≡ stepFrom (areas s c r g k w) n
     unfolding swept sweptAreas
-    step-sweeps v a h e f = by-sweep _ (rw (e, f, map-freed)
+    step-sweeps v a h e f = by-sweep _ (rw (e, f, page, map-freed)
         (checked-pass _ _ _ (ap (sweepCheck (areas s c r g k w)) (sym map-freed) ∙ sym (sweep-needs s c r g k w m) ∙ h)))
 
 -- what the code of a sweeping step needs
 module _ (s c r g k w : List ℕ) (n : ℕ) (o : Open (areas s c r g k w) n) where
-  pub page-below : at w passPageAt < n
-  page-below = o .ranged .working .pass-page
+  pub page-below : (p : ℕ) → p ≡ at w passPageAt → p < n
+  page-below p e = let l = o .ranged .working .pass-page in omega arith
 
-  pub map-below : mapAt c (at w passPageAt) < 65536
-  map-below = sound-facts c n (o .ranged .copies-sound) .map (at w passPageAt) page-below
+  pub map-below : (p : ℕ) → p ≡ at w passPageAt → mapAt c p < 65536
+  map-below p e = sound-facts c n (o .ranged .copies-sound) .map p (page-below p e)
 
   pub record-fits : (m : ℕ) → sweepNeeds g k w m ≡ Pass → (m ≡ 0 → ⊥) → (getD k 0 0 < 4096) × (6 * getD k 0 0 + 6 ≤ length g)
   record-fits m h some = let f = sweep-facts (areas s c r g k w) m (sym (sweep-needs s c r g k w m) ∙ h) .room some in omega arith

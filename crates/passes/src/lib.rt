@@ -22,7 +22,8 @@ pub fn start_pass(
     match e {
         Ready::Not(x) => Answer::Refused(x),
         Ready::Go(n) => {
-            if work[2] != 0 {
+            let pass = pass_record::pass_of(work);
+            if pass.phase != 0 {
                 return Answer::Refused(Refusal::WrongState);
             }
             marking::begin_pass(work, n);
@@ -46,15 +47,14 @@ pub fn pass_step(
     match e {
         Ready::Not(x) => Answer::Refused(x),
         Ready::Go(n) => {
-            let phase = work[2];
-            if phase == 0 {
+            let pass = pass_record::pass_of(work);
+            if pass.phase == 0 {
                 return Answer::Refused(Refusal::WrongState);
             }
-            if phase == 1 {
-                return Answer::Done(marking::mark_step(copies, work, n));
+            if pass.phase == 1 {
+                return Answer::Done(marking::mark_step(copies, work, n, pass));
             }
-            let p = work[3] as usize;
-            let m = sweeping::freed_map(copies, work, n, p);
+            let m = sweeping::freed_map(copies, work, n, pass.page as usize);
             let k = sweeping::sweep_check(log, counts, work, m);
             match k {
                 Check::Refuse(x) => Answer::Refused(x),
@@ -65,7 +65,7 @@ pub fn pass_step(
                     counts,
                     work,
                     n,
-                    p,
+                    pass,
                     m,
                 )),
             }

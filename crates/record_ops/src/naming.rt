@@ -32,7 +32,7 @@ pub fn last_naming(log: &[u32], c: usize) -> [u32; 256]
 {
     let mut last = [0u32; 256];
     for i in 0..c {
-        let r = records::record_at(log, i);
+        let r = log_reader::record_at(log, i);
         if names_page(r) {
             let p = page_named(r);
             last[p] = i as u32 + 1;

@@ -43,7 +43,7 @@ pub fn open_in(log: &[u32], c: usize) -> u32
     let mut m: u32 = 0;
     let mut i: usize = 0;
     while i < c {
-        m = open_next(m, records::record_at(log, i));
+        m = open_next(m, log_reader::record_at(log, i));
         i += 1;
     }
     m
@@ -58,7 +58,7 @@ pub fn log_sound(log: &[u32], n: usize, c: usize) -> bool
     let mut begun: u32 = 0;
     let mut i: usize = 0;
     'records: while i < c {
-        let r = records::record_at(log, i);
+        let r = log_reader::record_at(log, i);
         let mut w: usize = 0;
         while w < 6 {
             if !word_sound(r, n, w) {

@@ -101,7 +101,7 @@ pub fn records_sound(log: &[u32], n: usize, c: usize) -> bool
     let mut ok = true;
     let mut i: usize = 0;
     'records: while i < c {
-        let r = records::record_at(log, i);
+        let r = log_reader::record_at(log, i);
         let mut w: usize = 0;
         while w < 6 {
             if !word_sound(r, n, w) {

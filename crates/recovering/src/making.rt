@@ -33,7 +33,7 @@ fn redo(a: &mut [u32], log: &[u32], c: usize)
     ensures { λ _. ⌜ now (a .exit) ≡ redone (now (a .entry)) (now (log .entry)) c ⌝ }
 {
     for i in 0..c {
-        record_ops::apply(a, records::record_at(log, i));
+        record_ops::apply(a, log_reader::record_at(log, i));
     }
 }
 
@@ -57,7 +57,7 @@ fn undo(a: &mut [u32], log: &[u32], c: usize, m: u32)
     let mut i = c;
     while 0 < i {
         i -= 1;
-        let r = records::record_at(log, i);
+        let r = log_reader::record_at(log, i);
         take_back_of(a, left, r);
         left = page_replay::leave(left, r);
     }

@@ -11,7 +11,7 @@ pub fn read_record(log: &[u32], n: usize, i: usize) -> Read
     requires { ⌜ (n ≤ 256) × (6 * i + 6 ≤ length (now log)) ⌝ }
     ensures { λ x. ⌜ x ≡ readOf n (now (log .entry)) i ⌝ }
 {
-    let r = records::record_at(log, i);
+    let r = log_reader::record_at(log, i);
     for w in 0..6usize {
         if !record_ops::word_sound(r, n, w) {
             return Read::Unsound;

@@ -8,7 +8,7 @@ use lib.ListN.{getD, set}
 use lib.Dec.{eqb}
 use lib.Bits.{bitAnd}
 use native.Mathlib.Omega.{arith}
-use borrow.Author.Tests.{lt-ltb, le-ltb, eq-eqb, ne-eqb}
+use borrow.Author.Tests.{eq-eqb, ne-eqb}
 use Rattle.words.specs.Tests.{if, if-t, if-f, by-bool, or-l}
 use Rattle.words.specs.Bits.{mapOf, map-lt}
 use Rattle.pages.specs.Geometry.{objectAt}
@@ -21,7 +21,6 @@ use Rattle.areas.specs.declared.Check.the-variants.{Pass, Refuse}
 use Rattle.areas.specs.Answers.{need, need-holds, need-fails}
 use Rattle.areas.specs.Areas.{Areas, areas, withWork, appended}
 use Rattle.areas.specs.Layout.{createdAt, colourAt}
-use Rattle.areas.specs.Tables.{stepsNext, withPass}
 use Rattle.calls.specs.Pass.{locked, unmarked, sweepMap, freedMap, advanced, sweepCheck, sweptPage}
 use Rattle.store_ops.specs.Logs.{roomIn, room-in}
 use Rattle.sweeping.specs.Maps.{map-and, map-of-bits}
@@ -83,16 +82,6 @@ module _ (g k w : List ℕ) (m : ℕ) where
     pub needs-room : b ≡ true → Pass ≡ sweepNeeds g k w m
     unfolding sweepNeeds
     needs-room h = need-holds (eqb m 0 || roomIn g k w 1) LogFull Pass (rw (ne-eqb m 0 some) (sym e ∙ h))
-
--- the pass record after page p
-module _ (w : List ℕ) (n p : ℕ) where
-  pub advanced-on : (steps : ℕ) → steps ≡ stepsNext w n → p + 1 < n → withPass w 2 (p + 1) steps ≡ advanced w n p
-  unfolding advanced
-  advanced-on steps e h = rw e (sym (if-t _ _ _ (lt-ltb (p + 1) n h)))
-
-  pub advanced-over : n ≤ p + 1 → withPass w 0 0 0 ≡ advanced w n p
-  unfolding advanced
-  advanced-over h = sym (if-f _ _ _ (le-ltb (p + 1) n h))
 
 -- the areas after a step
 unfoldable pub sweptAreas : Areas → ℕ → ℕ → ℕ → Areas

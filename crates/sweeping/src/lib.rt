@@ -10,11 +10,13 @@ ghost use Rattle.records.specs.Records.{recorded, sweepOf};
 ghost use Rattle.areas.specs.Areas.{areas};
 ghost use Rattle.calls.specs.Pass as spec;
 ghost use Rattle.store_ops.specs.Logs.{Kept};
+ghost use Rattle.pass_record.specs.Step.{passOf};
 ghost use Rattle.sweeping.specs.Sweeps.{unmarkedMap, freedIn, sweepNeeds, sweptAreas};
 use areas::Check;
 use areas::Refusal;
 use page_ops::bits;
 use page_ops::change;
+use pass_record::Pass;
 use records::Record;
 
 // Whether slot s of page p is white and has no COT entry.
@@ -108,21 +110,7 @@ fn sweep_page(
     counts[0] = c + 1;
 }
 
-// The pass record goes to the next page; after the last one the pass is over.
-fn advance(work: &mut [u32], n: usize, p: usize)
-    requires { ⌜ (length (now work) ≡ 6 + 67 * n) × (n ≤ 256) × (p < n) ⌝ }
-    ensures { λ _. ⌜ now (work .exit) ≡ spec.advanced (now (work .entry)) n p ⌝ }
-{
-    let next = p + 1;
-    if next < n {
-        let steps = marking::steps_next(work, n);
-        marking::put_pass(work, 2, next as u32, steps);
-        return;
-    }
-    marking::put_pass(work, 0, 0, 0);
-}
-
-// A sweeping step of page p that frees the slots of m. Answers how many.
+// A sweeping step of the pass record's page that frees the slots of m. Answers how many.
 pub fn sweep_step(
     copies: &mut [u32],
     received: &mut [u32],
@@ -130,17 +118,17 @@ pub fn sweep_step(
     counts: &mut [u32],
     work: &mut [u32],
     n: usize,
-    p: usize,
+    pass: Pass,
     m: u32,
 ) -> u32
-    requires { ⌜ (m < 65536) × (n ≤ 256) × (p < n) × (length (now copies) ≡ 129 * n) × (length (now received) ≡ 129 * n) × (length (now work) ≡ 6 + 67 * n) × (length (now counts) ≡ 2) ⌝ }
+    requires { ⌜ (m < 65536) × (n ≤ 256) × (pass .page < n) × (pass .phase ≡ 1 → ⊥) × (pass ≡ passOf (now work)) × (length (now copies) ≡ 129 * n) × (length (now received) ≡ 129 * n) × (length (now work) ≡ 6 + 67 * n) × (length (now counts) ≡ 2) ⌝ }
     requires { ⌜ ((m ≡ 0 → ⊥) → (getD (now counts) 0 0 < 4096) × (6 * getD (now counts) 0 0 + 6 ≤ length (now log))) ⌝ }
     ensures { λ r. ⌜ r ≡ slotsSet m ⌝ }
-    ensures { λ _. ⌜ ((s : List ℕ) → areas s (now (copies .exit)) (now (received .exit)) (now (log .exit)) (now (counts .exit)) (now (work .exit)) ≡ sweptAreas (areas s (now (copies .entry)) (now (received .entry)) (now (log .entry)) (now (counts .entry)) (now (work .entry))) n p m) ⌝ }
+    ensures { λ _. ⌜ ((s : List ℕ) → areas s (now (copies .exit)) (now (received .exit)) (now (log .exit)) (now (counts .exit)) (now (work .exit)) ≡ sweptAreas (areas s (now (copies .entry)) (now (received .entry)) (now (log .entry)) (now (counts .entry)) (now (work .entry))) n (pass .page) m) ⌝ }
 {
-    advance(work, n, p);
+    pass_record::put_pass(work, pass_record::advanced(pass, n, false));
     if m != 0 {
-        sweep_page(copies, received, log, counts, p, m);
+        sweep_page(copies, received, log, counts, pass.page as usize, m);
         return bits::slots_set(m);
     }
     0

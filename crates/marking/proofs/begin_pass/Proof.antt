@@ -1,4 +1,5 @@
 use mathlib.Core.Path.{_∙_}
+use Rattle.pass_record.specs.Step.{put-is}
 use Rattle.marking.specs.Colours.{pass-started}
 use borrow.Author.Needs.{needs}
 use Rattle.marking.proofs.begin_pass.Statement.{statement}
@@ -38,7 +39,7 @@ same-length : tie.Need-same-length
 same-length c = search needs
 
 returns : tie.Need-returns
-returns c = c .before .before .put-pass .ensures ∙ pass-started _ _ _ _ _ (c .before .before .before .before .before .before .before .before .before .before .before .before .before .before .leave-all .ensures) (c .before .before .before .before .before .before .before .before .before .before .leave-all2 .ensures) (c .before .before .before .before .before .before .colour-first .ensures)
+returns c = c .before .before .put-pass .ensures ∙ put-is _ _ ∙ pass-started _ _ _ _ _ (c .before .before .before .before .before .before .before .before .before .before .before .before .before .before .leave-all .ensures) (c .before .before .before .before .before .before .before .before .before .before .leave-all2 .ensures) (c .before .before .before .before .before .before .colour-first .ensures)
 
 pub begin-pass-spec : {M : Type 1} → statement M
 begin-pass-spec =

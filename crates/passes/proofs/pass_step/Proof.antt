@@ -5,6 +5,7 @@ use Rattle.areas.specs.Entry.{entering-not, entering-go}
 use Rattle.acceptance.specs.Entered.{opened}
 use Rattle.store_ops.specs.Logs.{open-kept}
 use Rattle.calls.specs.Pass.{callStep}
+use Rattle.pass_record.specs.Step.{own-phase, own-page}
 use Rattle.sweeping.specs.Sweeps.{freed-below}
 use Rattle.passes.specs.Stepping.{step-idle, step-marks, step-full, step-sweeps, page-below, map-below, record-fits}
 use borrow.Author.Needs.{needs}
@@ -20,8 +21,8 @@ enum-known-e c = search needs
 enum-known-e-2 : tie.Need-enum-known-e-2
 enum-known-e-2 c = search needs
 
-slice-read-phase : tie.Need-slice-read-phase
-slice-read-phase c = let h = opened true _ _ (sym (c .before .before .before .before .entry-check .ensures) ∙ c .before .before .e2 .given .1) in omega arith
+pass-of-requires : tie.Need-pass-of-requires
+pass-of-requires c κs = let h = opened true _ _ (sym (c .before .before .before .before .entry-check .ensures) ∙ c .before .before .e2 .given .1) in omega arith
 
 same-length : tie.Need-same-length
 same-length c = search needs
@@ -40,10 +41,10 @@ same-length-5 c = search needs
 
 returns : tie.Need-returns
 unfolding callStep
-returns c = step-idle _ _ (c .if1 .taken) ∙ entering-go _ _ _ _ (sym (c .before .before .before .before .before .entry-check .ensures) ∙ c .before .before .before .e2 .given .1)
+returns c = step-idle _ _ (sym (own-phase _ _ (c .before .before .pass-of .ensures)) ∙ c .if1 .taken) ∙ entering-go _ _ _ _ (sym (c .before .before .before .before .before .before .before .entry-check .ensures) ∙ c .before .before .before .before .before .e2 .given .1)
 
 mark-step-requires : tie.Need-mark-step-requires
-mark-step-requires c κs = let h = opened true _ _ (sym (c .before .before .before .before .before .before .before .before .entry-check .ensures) ∙ c .before .before .before .before .before .before .e2 .given .1) in omega arith
+mark-step-requires c κs = let h = opened true _ _ (sym (c .before .before .before .before .before .before .before .before .before .before .before .entry-check .ensures) ∙ c .before .before .before .before .before .before .before .before .before .e2 .given .1) in (omega arith, omega arith, omega arith, page-below _ _ _ _ _ _ _ h _ (own-page _ _ (c .before .before .before .before .before .before .pass-of .ensures)), c .before .before .if2 .taken, (c .before .before .before .before .before .before .pass-of .ensures))
 
 same-length-6 : tie.Need-same-length-6
 same-length-6 c = search needs
@@ -62,19 +63,16 @@ same-length-10 c = search needs
 
 returns-2 : tie.Need-returns-2
 unfolding callStep
-returns-2 c = let q = c .before .before .mark-step .ensures in step-marks _ _ _ _ _ _ _ (c .before .before .before .before .before .before .if1 .left) _ _ (c .before .before .before .before .before .if2 .taken) (q .0) (q .1) ∙ entering-go _ _ _ _ (sym (c .before .before .before .before .before .before .before .before .before .before .before .entry-check .ensures) ∙ c .before .before .before .before .before .before .before .before .before .e2 .given .1)
+returns-2 c = let q = c .before .before .mark-step .ensures in step-marks _ _ _ _ _ _ _ (λ e. c .before .before .before .before .before .before .before .if1 .left (own-phase _ _ (c .before .before .before .before .before .before .before .before .before .pass-of .ensures) ∙ e)) _ _ (sym (own-phase _ _ (c .before .before .before .before .before .before .before .before .before .pass-of .ensures)) ∙ c .before .before .before .before .before .if2 .taken) (q .0) (q .1) ∙ entering-go _ _ _ _ (sym (c .before .before .before .before .before .before .before .before .before .before .before .before .before .before .entry-check .ensures) ∙ c .before .before .before .before .before .before .before .before .before .before .before .before .e2 .given .1)
 
-slice-read-p : tie.Need-slice-read-p
-slice-read-p c = let h = opened true _ _ (sym (c .before .before .before .before .before .before .before .entry-check .ensures) ∙ c .before .before .before .before .before .e2 .given .1) in omega arith
-
-cast-p : tie.Need-cast-p
-cast-p c = omega (arith, c .slice-known8 .given 3)
+cast-freed-map : tie.Need-cast-freed-map
+cast-freed-map c = let h = opened true _ _ (sym (c .before .before .before .before .before .before .before .before .before .before .before .before .entry-check .ensures) ∙ c .before .before .before .before .before .before .before .before .before .before .e2 .given .1) in let l = page-below _ _ _ _ _ _ _ h _ (own-page _ _ (c .before .before .before .before .before .before .before .pass-of .ensures)) in omega arith
 
 freed-map-requires : tie.Need-freed-map-requires
-freed-map-requires c κs = let h = opened true _ _ (sym (c .before .before .before .before .before .before .before .before .before .entry-check .ensures) ∙ c .before .before .before .before .before .before .before .e2 .given .1) in (omega arith, map-below _ _ _ _ _ _ _ h, omega arith, omega arith, page-below _ _ _ _ _ _ _ h)
+freed-map-requires c κs = let h = opened true _ _ (sym (c .before .before .before .before .before .before .before .before .before .before .before .before .entry-check .ensures) ∙ c .before .before .before .before .before .before .before .before .before .before .e2 .given .1) in let e = own-page _ _ (c .before .before .before .before .before .before .before .pass-of .ensures) in (omega arith, map-below _ _ _ _ _ _ _ h _ e, omega arith, omega arith, page-below _ _ _ _ _ _ _ h _ e)
 
 sweep-check-requires : tie.Need-sweep-check-requires
-sweep-check-requires c κs = let h = opened true _ _ (sym (c .before .before .before .before .before .before .before .before .before .before .before .before .before .entry-check .ensures) ∙ c .before .before .before .before .before .before .before .before .before .before .before .e2 .given .1) in (open-kept _ _ h, omega arith)
+sweep-check-requires c κs = let h = opened true _ _ (sym (c .before .before .before .before .before .before .before .before .before .before .before .before .before .before .before .before .entry-check .ensures) ∙ c .before .before .before .before .before .before .before .before .before .before .before .before .before .before .e2 .given .1) in (open-kept _ _ h, omega arith)
 
 enum-known-k : tie.Need-enum-known-k
 enum-known-k c = search needs
@@ -83,7 +81,7 @@ enum-told : tie.Need-enum-told
 enum-told c = search needs
 
 sweep-step-requires : tie.Need-sweep-step-requires
-sweep-step-requires c κs = let h = opened true _ _ (sym (c .before .before .before .before .before .before .before .before .before .before .before .before .before .before .before .before .before .before .before .before .before .entry-check .ensures) ∙ c .before .before .before .before .before .before .before .before .before .before .before .before .before .before .before .before .before .before .before .e2 .given .1) in ((freed-below _ _ _ _ _ (c .before .before .before .before .before .before .before .before .before .before .before .freed-map .ensures), omega arith, page-below _ _ _ _ _ _ _ h, omega arith, omega arith, omega arith, omega arith), record-fits _ _ _ _ _ _ _ h _ (sym (c .before .before .before .before .before .before .before .sweep-check .ensures) ∙ c .before .before .before .before .before .enum-told .given .1))
+sweep-step-requires c κs = let h = opened true _ _ (sym (c .before .before .before .before .before .before .before .before .before .before .before .before .before .before .before .before .before .before .before .before .before .before .before .before .entry-check .ensures) ∙ c .before .before .before .before .before .before .before .before .before .before .before .before .before .before .before .before .before .before .before .before .before .before .e2 .given .1) in ((freed-below _ _ _ _ _ (c .before .before .before .before .before .before .before .before .before .before .before .freed-map .ensures), omega arith, page-below _ _ _ _ _ _ _ h _ (own-page _ _ (c .before .before .before .before .before .before .before .before .before .before .before .before .before .before .before .before .before .before .before .pass-of .ensures)), c .before .before .before .before .before .before .before .before .before .before .before .before .before .before .before .if2 .left, (c .before .before .before .before .before .before .before .before .before .before .before .before .before .before .before .before .before .before .before .pass-of .ensures), omega arith, omega arith, omega arith, omega arith), record-fits _ _ _ _ _ _ _ h _ (sym (c .before .before .before .before .before .before .before .sweep-check .ensures) ∙ c .before .before .before .before .before .enum-told .given .1))
 
 same-length-11 : tie.Need-same-length-11
 same-length-11 c = search needs
@@ -121,7 +119,7 @@ same-length-20 c = search needs
 
 returns-4 : tie.Need-returns-4
 unfolding callStep
-returns-4 c = step-full _ _ _ _ _ _ _ (c .before .before .before .before .before .before .before .before .before .before .before .before .if1 .left) (c .before .before .before .before .before .before .before .before .before .before .before .if2 .left) _ (c .before .before .before .before .before .before .before .freed-map .ensures) _ (sym (c .before .before .before .sweep-check .ensures) ∙ c .before .k .given .1) ∙ entering-go _ _ _ _ (sym (c .before .before .before .before .before .before .before .before .before .before .before .before .before .before .before .before .before .entry-check .ensures) ∙ c .before .before .before .before .before .before .before .before .before .before .before .before .before .before .before .e2 .given .1)
+returns-4 c = step-full _ _ _ _ _ _ _ (λ e. c .before .before .before .before .before .before .before .before .before .before .before .before .before .if1 .left (own-phase _ _ (c .before .before .before .before .before .before .before .before .before .before .before .before .before .before .before .pass-of .ensures) ∙ e)) (λ e. c .before .before .before .before .before .before .before .before .before .before .before .if2 .left (own-phase _ _ (c .before .before .before .before .before .before .before .before .before .before .before .before .before .before .before .pass-of .ensures) ∙ e)) _ _ (own-page _ _ (c .before .before .before .before .before .before .before .before .before .before .before .before .before .before .before .pass-of .ensures)) (c .before .before .before .before .before .before .before .freed-map .ensures) _ (sym (c .before .before .before .sweep-check .ensures) ∙ c .before .k .given .1) ∙ entering-go _ _ _ _ (sym (c .before .before .before .before .before .before .before .before .before .before .before .before .before .before .before .before .before .before .before .before .entry-check .ensures) ∙ c .before .before .before .before .before .before .before .before .before .before .before .before .before .before .before .before .before .before .e2 .given .1)
 
 same-length-21 : tie.Need-same-length-21
 same-length-21 c = search needs
@@ -140,7 +138,7 @@ same-length-25 c = search needs
 
 returns-5 : tie.Need-returns-5
 unfolding callStep
-returns-5 c = let q = c .before .before .before .before .before .before .before .before .before .before .sweep-step .ensures in step-sweeps _ _ _ _ _ _ _ (c .before .before .before .before .before .before .before .before .before .before .before .before .before .before .before .before .before .before .before .before .before .before .before .before .before .before .before .if1 .left) (c .before .before .before .before .before .before .before .before .before .before .before .before .before .before .before .before .before .before .before .before .before .before .before .before .before .before .if2 .left) _ (c .before .before .before .before .before .before .before .before .before .before .before .before .before .before .before .before .before .before .before .before .before .before .freed-map .ensures) _ _ (sym (c .before .before .before .before .before .before .before .before .before .before .before .before .before .before .before .before .before .before .sweep-check .ensures) ∙ c .before .before .before .before .before .before .before .before .before .before .before .before .before .before .before .before .enum-told .given .1) (q .0) (q .1 _) ∙ entering-go _ _ _ _ (sym (c .before .before .before .before .before .before .before .before .before .before .before .before .before .before .before .before .before .before .before .before .before .before .before .before .before .before .before .before .before .before .before .before .entry-check .ensures) ∙ c .before .before .before .before .before .before .before .before .before .before .before .before .before .before .before .before .before .before .before .before .before .before .before .before .before .before .before .before .before .before .e2 .given .1)
+returns-5 c = let q = c .before .before .before .before .before .before .before .before .before .before .sweep-step .ensures in step-sweeps _ _ _ _ _ _ _ (λ e. c .before .before .before .before .before .before .before .before .before .before .before .before .before .before .before .before .before .before .before .before .before .before .before .before .before .before .before .before .if1 .left (own-phase _ _ (c .before .before .before .before .before .before .before .before .before .before .before .before .before .before .before .before .before .before .before .before .before .before .before .before .before .before .before .before .before .before .pass-of .ensures) ∙ e)) (λ e. c .before .before .before .before .before .before .before .before .before .before .before .before .before .before .before .before .before .before .before .before .before .before .before .before .before .before .if2 .left (own-phase _ _ (c .before .before .before .before .before .before .before .before .before .before .before .before .before .before .before .before .before .before .before .before .before .before .before .before .before .before .before .before .before .before .pass-of .ensures) ∙ e)) _ _ (own-page _ _ (c .before .before .before .before .before .before .before .before .before .before .before .before .before .before .before .before .before .before .before .before .before .before .before .before .before .before .before .before .before .before .pass-of .ensures)) (c .before .before .before .before .before .before .before .before .before .before .before .before .before .before .before .before .before .before .before .before .before .before .freed-map .ensures) _ _ (sym (c .before .before .before .before .before .before .before .before .before .before .before .before .before .before .before .before .before .before .sweep-check .ensures) ∙ c .before .before .before .before .before .before .before .before .before .before .before .before .before .before .before .before .enum-told .given .1) (q .0) (q .1 _) ∙ entering-go _ _ _ _ (sym (c .before .before .before .before .before .before .before .before .before .before .before .before .before .before .before .before .before .before .before .before .before .before .before .before .before .before .before .before .before .before .before .before .before .before .before .entry-check .ensures) ∙ c .before .before .before .before .before .before .before .before .before .before .before .before .before .before .before .before .before .before .before .before .before .before .before .before .before .before .before .before .before .before .before .before .before .e2 .given .1)
 
 pub pass-step-spec : {M : Type 1} → statement M
 pass-step-spec =
@@ -149,7 +147,7 @@ pass-step-spec =
     entry-check-requires
     enum-known-e
     enum-known-e-2
-    slice-read-phase
+    pass-of-requires
     same-length
     same-length-2
     same-length-3
@@ -163,8 +161,7 @@ pass-step-spec =
     same-length-9
     same-length-10
     returns-2
-    slice-read-p
-    cast-p
+    cast-freed-map
     freed-map-requires
     sweep-check-requires
     enum-known-k

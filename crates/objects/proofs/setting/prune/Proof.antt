@@ -1,15 +1,14 @@
-use native.Mathlib.Omega.{arith}
+use mathlib.Core.Path.{ap, sym, _∙_}
+use lib.Dec.{eqb}
+use Prim.Native.Nat.{ℕ}
+use Rattle.pass_record.specs.Step.{own-phase}
 use Rattle.objects.specs.Changing.{pruned-marking, pruned-idle}
 use borrow.Author.Needs.{needs}
 use Rattle.objects.proofs.setting.prune.Statement.{statement}
 use Rattle.objects.proofs.setting.prune.Tie as tie
-use Rattle.objects.proofs.setting.prune.Reads as reads
-use Rattle.objects.proofs.setting.prune.Lts as lts
-use Rattle.store_ops.proofs.gain.Reads as gain-reads
-use Rattle.store_ops.proofs.turn_grey.Reads as turn-grey-reads
 
-slice-read-marking : tie.Need-slice-read-marking
-slice-read-marking c = search needs
+pass-of-requires : tie.Need-pass-of-requires
+pass-of-requires c κs = search needs
 
 mul-gain : tie.Need-mul-gain
 mul-gain c = search needs
@@ -33,19 +32,19 @@ same-length : tie.Need-same-length
 same-length c = search needs
 
 returns : tie.Need-returns
-returns c = pruned-marking _ _ _ _ _ _ (c .before .before .before .before .before .before .before .gain .ensures) (c .before .before .before .before .if1 .taken) (c .before .before .turn-grey .ensures)
+returns c = pruned-marking _ _ _ _ _ _ (c .before .before .before .before .before .before .before .gain .ensures) (ap (λ (p : ℕ). eqb p 1) (sym (own-phase _ _ (c .before .before .before .before .before .before .before .before .before .before .pass-of .ensures))) ∙ c .before .before .before .before .if1 .taken) (c .before .before .turn-grey .ensures)
 
 same-length-2 : tie.Need-same-length-2
 same-length-2 c = search needs
 
 returns-2 : tie.Need-returns-2
-returns-2 c = pruned-idle _ _ _ _ _ (c .before .before .before .gain .ensures) (c .if1 .left)
+returns-2 c = pruned-idle _ _ _ _ _ (c .before .before .before .gain .ensures) (ap (λ (p : ℕ). eqb p 1) (sym (own-phase _ _ (c .before .before .before .before .before .before .pass-of .ensures))) ∙ c .if1 .left)
 
 pub prune-spec : {M : Type 1} → statement M
 prune-spec =
     tie.close
     (tie.spec
-    slice-read-marking
+    pass-of-requires
     mul-gain
     add-gain
     sub-gain

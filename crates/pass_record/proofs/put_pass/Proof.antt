@@ -1,8 +1,9 @@
 use native.Mathlib.Omega.{arith}
 use lib.ListN.{length-set}
 use borrow.Author.Needs.{needs}
-use Rattle.marking.proofs.put_pass.Statement.{statement}
-use Rattle.marking.proofs.put_pass.Tie as tie
+use Rattle.pass_record.specs.Step.{withRecord}
+use Rattle.pass_record.proofs.put_pass.Statement.{statement}
+use Rattle.pass_record.proofs.put_pass.Tie as tie
 
 slice-write-work : tie.Need-slice-write-work
 slice-write-work c = search needs
@@ -17,6 +18,7 @@ same-length : tie.Need-same-length
 same-length c = search needs
 
 returns : tie.Need-returns
+unfolding withRecord
 returns c = search needs
 
 pub put-pass-spec : {M : Type 1} → statement M
