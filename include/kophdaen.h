@@ -8,6 +8,7 @@
  *
  * A call answers  answer number * 2^32 + value : number 0 where accepted, else the refusal's number
  * in document 01's table, with the value 0 and every buffer as it was. Any words may be lent.
+ * docs/CALLING.md has the refusals, what to write to the disk and when, and a complete program.
  */
 #ifndef KOPHDAEN_H
 #define KOPHDAEN_H
