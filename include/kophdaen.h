@@ -8,6 +8,7 @@
  *
  * A call answers  answer number * 2^32 + value : number 0 where accepted, else the refusal's number
  * in document 01's table, with the value 0 and every buffer as it was. Any words may be lent.
+ * docs/CALLING.md has the refusals, what to write to the disk and when, and a complete program.
  */
 #ifndef KOPHDAEN_H
 #define KOPHDAEN_H
@@ -35,12 +36,12 @@ uint64_t kophdaen_format(
 /* Transactions t are 0 to 15. Value: the received count. */
 uint64_t kophdaen_begin(
     const uint32_t *stored, size_t stored_words, const uint32_t *copies, size_t copies_words,
-    const uint32_t *received, size_t received_words, uint32_t *log, size_t log_words,
+    uint32_t *received, size_t received_words, uint32_t *log, size_t log_words,
     uint32_t *counts, size_t counts_words, uint32_t *work, size_t work_words, uint32_t t);
 
 uint64_t kophdaen_commit(
     const uint32_t *stored, size_t stored_words, const uint32_t *copies, size_t copies_words,
-    const uint32_t *received, size_t received_words, uint32_t *log, size_t log_words,
+    uint32_t *received, size_t received_words, uint32_t *log, size_t log_words,
     uint32_t *counts, size_t counts_words, uint32_t *work, size_t work_words, uint32_t t);
 
 uint64_t kophdaen_abort(

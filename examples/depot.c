@@ -1,0 +1,189 @@
+/* A depot's day through the C functions: a dispenser with two valves, one of them replaced, a pass
+ * that frees the old one, a power cut in the middle of a job, and the start after it.
+ * docs/CALLING.md explains the calls; examples/depot.rs is the same day in Rust. */
+#include <inttypes.h>
+#include <stdio.h>
+#include <stdlib.h>
+#include <string.h>
+
+#include "kophdaen.h"
+
+enum { PAGES = 4, RECORDS = 64, PAGE_WORDS = KOPHDAEN_PAGE_WORDS, RECORD_WORDS = KOPHDAEN_RECORD_WORDS };
+enum { ROOT = 1, DISPENSER = 17, OLD_VALVE = 18, OTHER_VALVE = 19, NEW_VALVE = 20 };
+enum { SERIAL = 4 };              /* the data word with a valve's serial number */
+enum { PHASE = 2, SWEEPING = 2 }; /* the pass phase in the working tables: docs/LAYOUT.md */
+
+/* The six areas, and how every call takes them: a pointer and a length in words each. */
+static uint32_t stored[PAGES * PAGE_WORDS], copies[PAGES * PAGE_WORDS], received[PAGES * PAGE_WORDS];
+static uint32_t records[RECORDS * RECORD_WORDS], counts[KOPHDAEN_COUNTS_WORDS], work[KOPHDAEN_WORK_WORDS(PAGES)];
+#define LENT(area) area, sizeof area / sizeof *area
+#define AREAS LENT(stored), LENT(copies), LENT(received), LENT(records), LENT(counts), LENT(work)
+
+/* The disk: all that a cut leaves. Here it is memory; a server has a file. */
+static struct {
+    uint32_t pages[PAGES * PAGE_WORDS], records[RECORDS * RECORD_WORDS], stable;
+} disk;
+
+static void write_page(uint32_t page)
+{
+    memcpy(disk.pages + page * PAGE_WORDS, stored + page * PAGE_WORDS, PAGE_WORDS * sizeof *stored);
+}
+
+/* The records before the count: the count is what makes them stable. */
+static void write_log(void)
+{
+    memcpy(disk.records, records, counts[1] * RECORD_WORDS * sizeof *records);
+    disk.stable = counts[1];
+}
+
+/* The value of an accepted call. This day expects no refusal but the one that it prints. */
+static uint32_t done(uint64_t code)
+{
+    if (KOPHDAEN_ANSWER(code) != 0) {
+        fprintf(stderr, "refused with %" PRIu32 "\n", KOPHDAEN_ANSWER(code));
+        exit(1);
+    }
+    return KOPHDAEN_VALUE(code);
+}
+
+/* A new store. */
+static void format(void)
+{
+    done(kophdaen_format(AREAS));
+    for (uint32_t page = 0; page < PAGES; page++)
+        write_page(page);
+    write_log();
+}
+
+/* The start after a cut: areas of zeros, what the disk has, then the reopening. */
+static void start(void)
+{
+    uint32_t page;
+    memset(copies, 0, sizeof copies);
+    memset(received, 0, sizeof received);
+    memset(records, 0, sizeof records);
+    memset(work, 0, sizeof work);
+    memcpy(stored, disk.pages, sizeof stored);
+    memcpy(records, disk.records, disk.stable * RECORD_WORDS * sizeof *records);
+    counts[0] = 0;
+    counts[1] = disk.stable;
+    done(kophdaen_reopen(AREAS));
+    do {
+        page = done(kophdaen_reopen_step(AREAS));
+        if (page < PAGES)
+            write_page(page);
+        else
+            write_log();
+    } while (page < PAGES);
+}
+
+/* Makes every record stable: from here on no cut undoes a committed transaction. */
+static void force_all(void)
+{
+    while (counts[1] < counts[0]) {
+        done(kophdaen_force(AREAS));
+        write_log();
+    }
+}
+
+/* Makes room in the log: every page stored, then no record is needed any more. */
+static void empty_log(void)
+{
+    force_all();
+    for (uint32_t page = 0; page < PAGES; page++) {
+        done(kophdaen_store_page(AREAS, page));
+        write_page(page);
+    }
+    done(kophdaen_empty_log(AREAS));
+    write_log();
+}
+
+/* A tablet sends its image of a page that it changed. */
+static void flush(uint32_t t, uint32_t page)
+{
+    uint32_t image[PAGE_WORDS];
+    memcpy(image, received + page * PAGE_WORDS, sizeof image);
+    done(kophdaen_flush(AREAS, LENT(image), t, page));
+}
+
+/* The dispenser below the root, with two valves. */
+static void install(uint32_t t)
+{
+    done(kophdaen_begin(AREAS, t));
+    done(kophdaen_lock_write(AREAS, t, 0));
+    done(kophdaen_lock_write(AREAS, t, 1));
+    done(kophdaen_create(AREAS, t, DISPENSER));
+    done(kophdaen_create(AREAS, t, OLD_VALVE));
+    done(kophdaen_create(AREAS, t, OTHER_VALVE));
+    done(kophdaen_set_word(AREAS, t, ROOT, 0, DISPENSER));
+    done(kophdaen_set_word(AREAS, t, DISPENSER, 0, OLD_VALVE));
+    done(kophdaen_set_word(AREAS, t, DISPENSER, 1, OTHER_VALVE));
+    done(kophdaen_set_word(AREAS, t, OLD_VALVE, SERIAL, 50118));
+    flush(t, 0);
+    flush(t, 1);
+    done(kophdaen_commit(AREAS, t));
+}
+
+/* Transaction t begins, and finds its way from the root to the dispenser: what it read, it knows. */
+static void reach_dispenser(uint32_t t)
+{
+    uint32_t words[8];
+    done(kophdaen_begin(AREAS, t));
+    done(kophdaen_lock_read(AREAS, t, 0));
+    done(kophdaen_read(AREAS, LENT(words), t, ROOT));
+    done(kophdaen_lock_write(AREAS, t, 1));
+    done(kophdaen_read(AREAS, LENT(words), t, DISPENSER));
+}
+
+static void replace_valve(uint32_t t)
+{
+    reach_dispenser(t);
+    done(kophdaen_create(AREAS, t, NEW_VALVE));
+    done(kophdaen_set_word(AREAS, t, DISPENSER, 0, NEW_VALVE));
+    done(kophdaen_set_word(AREAS, t, NEW_VALVE, SERIAL, 50233));
+    flush(t, 1);
+    done(kophdaen_commit(AREAS, t));
+}
+
+/* A whole pass; the number of slots that it freed. */
+static uint32_t collect(void)
+{
+    uint32_t freed = 0;
+    done(kophdaen_start_pass(AREAS));
+    while (work[PHASE] != 0) {
+        int sweeping = work[PHASE] == SWEEPING;
+        uint32_t value = done(kophdaen_pass_step(AREAS));
+        freed += sweeping ? value : 0;
+    }
+    return freed;
+}
+
+/* Reads the valve that the dispenser names in its word 0, then asks for the old one. */
+static void show(uint32_t t)
+{
+    uint32_t words[8], valve;
+    reach_dispenser(t);
+    valve = done(kophdaen_read(AREAS, LENT(words), t, DISPENSER));
+    done(kophdaen_read(AREAS, LENT(words), t, valve));
+    printf("dispenser %d: valve %" PRIu32 ", serial number %" PRIu32 "\n", DISPENSER, valve, words[SERIAL]);
+    printf("valve %d: answer %" PRIu32 "\n", OLD_VALVE,
+           KOPHDAEN_ANSWER(kophdaen_read(AREAS, LENT(words), t, OLD_VALVE)));
+    done(kophdaen_commit(AREAS, t));
+}
+
+int main(void)
+{
+    format();
+    install(0);
+    show(0);
+    empty_log();
+    replace_valve(1);
+    printf("slots freed: %" PRIu32 "\n", collect());
+    reach_dispenser(2);
+    done(kophdaen_set_word(AREAS, 2, DISPENSER, 0, 0)); /* a job that the cut stops */
+    force_all();
+    printf("power cut: %" PRIu32 " records stable\n", disk.stable);
+    start();
+    show(3);
+    return 0;
+}
