@@ -1,4 +1,4 @@
--- The reader's answer, what reading the log says, and what the whole check says. n pages, l records, the first c of them. Assumes nothing.
+-- The reader's answer, what reading the log says, and what the check says. n pages, l records, the first c of them. Assumes nothing.
 use Prim.Native.Nat.{ℕ, _+_, _*_, _<_, _≤_}
 use mathlib.Core.Path.{_≡_, refl, sym, ap, _∙_}
 use mathlib.Core.Bool.{Bool, true, false, _&&_}
@@ -6,13 +6,12 @@ use mathlib.Core.List.{List}
 use lib.Dec.{leb}
 use native.Mathlib.Omega.{arith}
 use borrow.Author.Tests.{le-leb, lt-leb, leb-true}
-use Rattle.words.specs.Tests.{if, all, by-bool, clash, if-t, if-f, and-t, and-f, and-false, and-split, all-none, all-more, all-stop, all-end}
-use Rattle.pages.specs.Soundness.{areaSound, freeZero}
+use Rattle.words.specs.Tests.{if, all, by-bool, if-t, if-f, and-t, and-false, all-none, all-stop, all-end}
+use Rattle.pages.specs.Soundness.{areaSound}
 use Rattle.records.specs.declared.Record.{Record}
 use Rattle.records.specs.Records.{recordAt}
 use Rattle.records.specs.Soundness.{wordSound, recordSound, recordsSound}
 use Rattle.records.specs.Order.{openIn, openNext, logSound}
-use Rattle.records.specs.Recovery.{recovered, recoverable}
 use Rattle.record_laws.specs.RecordLaws.{SoundRecord, sound-record, records-sound-next, log-sound-records, open-next}
 use Rattle.areas.specs.declared.Refusal.{Refusal}
 use Rattle.areas.specs.declared.Refusal.the-variants.{Unsound}
@@ -27,9 +26,9 @@ readOf n g i = if (recordSound n (recordAt g i)) (read.Sound (recordAt g i)) rea
 unfoldable pub scanOf : ℕ → List ℕ → ℕ → Scan
 scanOf n g c = if (recordsSound n g c) (Open (openIn g c)) (Refuse Unsound)
 
--- 'a count above L (reopening looks at the stable one only)', then what the pages and the records say
+-- 'a count above L (reopening looks at the stable one only)', then 'The stored pages are checked first, then the records'
 unfoldable pub foundOf : ℕ → ℕ → List ℕ → List ℕ → ℕ → Scan
-foundOf n l a g c = if (leb c l && recoverable n a g c) (Open (openIn g c)) (Refuse Unsound)
+foundOf n l a g c = if (leb c l && areaSound a n && logSound n g c) (Open (openIn g c)) (Refuse Unsound)
 
 -- what an answer tells
 
@@ -90,44 +89,34 @@ scan-open n g c m h e = open-is (sym e ∙ scan-known n g c h)
 pub scan-clash : {A : Type 0} (n : ℕ) (g : List ℕ) (c : ℕ) (x : Refusal) → logSound n g c ≡ true → scanOf n g c ≡ Refuse x → A
 scan-clash n g c x h e = let k = sym e ∙ scan-known n g c h in let z : _≡_ {A = ℕ} 0 1 = cc in absurd (omega arith)
 
--- the whole check by its tests
+-- the check by its tests
 module _ (n l : ℕ) (a g : List ℕ) (c : ℕ) where
-  bad : (leb c l && recoverable n a g c) ≡ false → Refuse Unsound ≡ foundOf n l a g c
+  bad : (leb c l && areaSound a n && logSound n g c) ≡ false → Refuse Unsound ≡ foundOf n l a g c
   unfolding foundOf
   bad h = sym (if-f _ _ _ h)
 
-  bad-rest : recoverable n a g c ≡ false → Refuse Unsound ≡ foundOf n l a g c
-  bad-rest h = bad (ap (λ (b : Bool). leb c l && b) h ∙ and-false (leb c l))
-
   pub found-count : l < c → Refuse Unsound ≡ foundOf n l a g c
-  found-count h = bad (and-f _ _ (lt-leb c l h))
+  found-count h = bad (rw (lt-leb c l h))
 
   pub found-stored : areaSound a n ≡ false → Refuse Unsound ≡ foundOf n l a g c
-  unfolding recoverable
-  found-stored h = bad-rest (rw h)
+  found-stored h = bad (rw (h, and-false (leb c l)))
 
   pub found-log : logSound n g c ≡ false → Refuse Unsound ≡ foundOf n l a g c
-  unfolding recoverable
-  found-log h = bad-rest (rw (h, and-false (areaSound a n)))
+  found-log h = bad (rw (h, and-false (leb c l && areaSound a n)))
 
-  pub found-free : all (freeZero (recovered a g c)) n ≡ false → Refuse Unsound ≡ foundOf n l a g c
-  unfolding recoverable
-  found-free h = bad-rest (rw h (and-false (areaSound a n && logSound n g c)))
-
-  pub found-open : (m : ℕ) → c ≤ l → areaSound a n ≡ true → logSound n g c ≡ true → m ≡ openIn g c → all (freeZero (recovered a g c)) n ≡ true
-      → Open m ≡ foundOf n l a g c
-  unfolding foundOf recoverable
-  found-open m u s h e f = rw (e, le-leb c l u, s, h, f)
+  pub found-open : (m : ℕ) → c ≤ l → areaSound a n ≡ true → logSound n g c ≡ true → m ≡ openIn g c → Open m ≡ foundOf n l a g c
+  unfolding foundOf
+  found-open m u s h e = rw (e, le-leb c l u, s, h)
 
   -- and what it tells
-  pub found-sound : (m : ℕ) → foundOf n l a g c ≡ Open m → ((leb c l && recoverable n a g c) ≡ true) × (m ≡ openIn g c)
+  pub found-sound : (m : ℕ) → foundOf n l a g c ≡ Open m → ((leb c l && areaSound a n && logSound n g c) ≡ true) × (m ≡ openIn g c)
   unfolding foundOf
-  found-sound m h = by-bool (leb c l && recoverable n a g c)
+  found-sound m h = by-bool (leb c l && areaSound a n && logSound n g c)
       (λ t. (t, open-is (sym h ∙ if-t _ (Open (openIn g c)) (Refuse Unsound) t)))
       (λ t. let k = sym h ∙ if-f _ (Open (openIn g c)) (Refuse Unsound) t in let z : _≡_ {A = ℕ} 0 1 = cc in absurd (omega arith))
 
-  pub found-unsound : (x : Refusal) → foundOf n l a g c ≡ Refuse x → ((leb c l && recoverable n a g c) ≡ false) × (x ≡ Unsound)
+  pub found-unsound : (x : Refusal) → foundOf n l a g c ≡ Refuse x → ((leb c l && areaSound a n && logSound n g c) ≡ false) × (x ≡ Unsound)
   unfolding foundOf
-  found-unsound x h = by-bool (leb c l && recoverable n a g c)
+  found-unsound x h = by-bool (leb c l && areaSound a n && logSound n g c)
       (λ t. let k = sym h ∙ if-t _ (Open (openIn g c)) (Refuse Unsound) t in let z : _≡_ {A = ℕ} 0 1 = cc in absurd (omega arith))
       (λ t. let k = sym h ∙ if-f _ (Open (openIn g c)) (Refuse Unsound) t in (t, cc))

@@ -4,10 +4,12 @@ use mathlib.Core.Path.{_≡_, refl, sym, ap, _∙_}
 use mathlib.Core.Bool.{Bool, true, false}
 use mathlib.Core.List.{List}
 use lib.ListN.{length, getD, set, replicate, length-replicate, getD-replicate}
-use lib.Seq.{ext-getD}
+use lib.Dec.{eqb}
+use lib.Seq.{ext-getD, getD-set-same, getD-set-other}
+use native.Mathlib.Decide.{ℕ-discrete}
 use native.Mathlib.Omega.{arith}
 use Rattle.words.specs.Tests.{if, by-bool}
-use Rattle.words.specs.Bits.{bit}
+use Rattle.words.specs.Bits.{bit, withoutBit}
 use Rattle.records.specs.declared.Record.{Record}
 use Rattle.records.specs.Records.{recordAt}
 use Rattle.records.specs.Soundness.{recordSound, recordsSound}
@@ -16,8 +18,16 @@ use Rattle.records.specs.Order.{openIn}
 use Rattle.records.specs.Recovery.{redone, undoneIn, recovered}
 use Rattle.record_laws.specs.RecordLaws.{redone-next, records-sound-at}
 use Rattle.record_laws.specs.EffectLaws.{length-redone}
-use Rattle.page_replay.specs.Pages.{FilledTo}
-use Rattle.page_replay.specs.Replay.{leaving, record-sound-of}
+
+-- the first i words of b are those of f: one more of them written
+abbrev pub FilledTo : List ℕ → (ℕ → ℕ) → ℕ → Type 0
+FilledTo b f i = (k : ℕ) → k < i → getD b k 0 ≡ f k
+
+pub filled-next : (b : List ℕ) (f : ℕ → ℕ) (n i : ℕ) → length b ≡ n → i < n → FilledTo b f i → FilledTo (set b i (f i)) f (i + 1)
+filled-next b f n i e l h k m = elim (ℕ-discrete k i) [
+  | yes q ↦ rw q (getD-set-same b i (f i) 0 (omega arith))
+  | no q ↦ getD-set-other b i k (f i) 0 q ∙ h k (omega arith)
+]
 
 -- a list filled to its end
 pub filled-same : (b a : List ℕ) (i : ℕ) → length b ≡ length a → length a ≤ i → FilledTo b (λ k. getD a k 0) i → b ≡ a
@@ -26,6 +36,10 @@ filled-same b a i e u h = ext-getD 0 b a e (λ k l. h k (omega arith))
 pub filled-zero : (b : List ℕ) (n i : ℕ) → length b ≡ n → n ≤ i → FilledTo b (λ k. 0) i → b ≡ replicate n 0
 filled-zero b n i e u h = ext-getD 0 b (replicate n 0) (e ∙ sym (length-replicate n 0)) (λ k l. h k (omega arith) ∙ sym (getD-replicate n k 0 0 (omega arith)))
 
+-- the mask without the transaction that a record begins
+abbrev pub leaving : ℕ → Record → ℕ
+leaving m r = if (eqb (r .kind) 1) (withoutBit m (r .txn)) m
+
 -- a record undone if it is of a transaction of m
 abbrev pub takenBack : ℕ → List ℕ → Record → List ℕ
 takenBack m a r = if (bit m (r .txn)) (undone a r) a
@@ -33,11 +47,22 @@ takenBack m a r = if (bit m (r .txn)) (undone a r) a
 pub redone-turn : (a g : List ℕ) (i : ℕ) (x : List ℕ) (r : Record) → x ≡ redone a g i → r ≡ recordAt g i → effect x r ≡ redone a g (i + 1)
 redone-turn a g i x r e f = ap (λ (y : List ℕ). effect y r) e ∙ ap (effect (redone a g i)) f ∙ redone-next a g i
 
-pub undone-down : (g : List ℕ) (m i : ℕ) (a : List ℕ) {m′ : ℕ} {x : List ℕ} (r : Record) → 0 < i → r ≡ recordAt g (i - 1)
+undone-down : (g : List ℕ) (m i : ℕ) (a : List ℕ) {m′ : ℕ} {x : List ℕ} (r : Record) → 0 < i → r ≡ recordAt g (i - 1)
     → m′ ≡ leaving m r → x ≡ takenBack m a r → undoneIn g m′ (i - 1) x ≡ undoneIn g m i a
 unfolding undoneIn
 undone-down g m zero a r l er em ex = absurd (omega arith)
 undone-down g m (suc j) a r l er em ex = let z : suc j - 1 ≡ j = omega arith in rw (em, ex, er, z)
+
+-- record c - back, where back counts from 1
+pub undone-back : (g : List ℕ) (m c back : ℕ) (a : List ℕ) {m′ : ℕ} {x : List ℕ} (r : Record) → 1 ≤ back → back ≤ c → r ≡ recordAt g (c - back)
+    → m′ ≡ leaving m r → x ≡ takenBack m a r → undoneIn g m′ (c + 1 - (back + 1)) x ≡ undoneIn g m (c + 1 - back) a
+undone-back g m c back a r l u er em ex =
+    let z : c + 1 - (back + 1) ≡ c + 1 - back - 1 = omega arith in
+    let y : c - back ≡ c + 1 - back - 1 = omega arith in
+    rw z (undone-down g m (c + 1 - back) a r (omega arith) (rw y at er) em ex)
+
+pub undone-first : (g : List ℕ) (m c : ℕ) (a : List ℕ) → undoneIn g m (c + 1 - 1) a ≡ undoneIn g m c a
+undone-first g m c a = let z : c + 1 - 1 ≡ c = omega arith in rw z
 
 pub undone-end : (g : List ℕ) (m i : ℕ) (a : List ℕ) → i ≤ 0 → a ≡ undoneIn g m i a
 unfolding undoneIn
@@ -47,14 +72,18 @@ undone-end g m (suc i) a l = absurd (omega arith)
 -- a record of the log, for an area as long as the one that the log is sound for
 pub sound-here : (a x g : List ℕ) (c i : ℕ) (r : Record) → length x ≡ length a → r ≡ recordAt g i → recordsSound (length a / 129) g c ≡ true → i < c
     → recordSound (length x / 129) r ≡ true
-sound-here a x g c i r e f h l = rw e (record-sound-of (length a / 129) g c i r f h l)
+sound-here a x g c i r e f h l = rw e (ap (recordSound (length a / 129)) f ∙ records-sound-at (length a / 129) g c i h l)
 
--- a log sound for the stored pages a is so for what is made of them
-pub sound-copied : (a g : List ℕ) (c : ℕ) (x : List ℕ) → x ≡ a → recordsSound (length a / 129) g c ≡ true → recordsSound (length x / 129) g c ≡ true
-sound-copied a g c x e h = rw e h
+-- a log sound for n pages, the stored pages a, is so for what is made of them
+module _ (n : ℕ) (a g : List ℕ) (c : ℕ) (len : length a ≡ 129 * n) (sound : recordsSound n g c ≡ true) where
+  as-long : (x : List ℕ) → length x ≡ length a → recordsSound (length x / 129) g c ≡ true
+  as-long x e = let z : length x / 129 ≡ n = omega arith in rw z sound
 
-pub sound-redone : (a g : List ℕ) (c : ℕ) (x y : List ℕ) → x ≡ a → y ≡ redone x g c → recordsSound (length a / 129) g c ≡ true → recordsSound (length y / 129) g c ≡ true
-sound-redone a g c x y e f h = rw (f, e, length-redone a g c) h
+  pub sound-copied : (x : List ℕ) → x ≡ a → recordsSound (length x / 129) g c ≡ true
+  sound-copied x e = as-long x (ap length e)
+
+  pub sound-redone : (x y : List ℕ) → x ≡ a → y ≡ redone x g c → recordsSound (length y / 129) g c ≡ true
+  sound-redone x y e f = as-long y (ap length f ∙ length-redone x g c ∙ ap length e)
 
 -- all of it: b holds the stored pages, x them redone, y the undone
 pub rebuilt : (a g : List ℕ) (c m : ℕ) (b x y : List ℕ) → m ≡ openIn g c → b ≡ a → x ≡ redone b g c → y ≡ undoneIn g m c x → y ≡ recovered a g c

@@ -1,11 +1,12 @@
-// What stored pages and stable records give: the log read, the pages that it leaves checked one by one, and both made in place.
+// What stored pages and stable records give: the log read and checked, and the pages that it leaves.
 mod check;
 mod making;
 mod reading;
 
 use areas::Refusal;
 pub use check::find_open;
-pub use making::rebuild;
+pub use making::copy_area;
+pub use making::recover;
 pub use making::restart;
 use records::Record;
 

@@ -2,14 +2,17 @@ ghost use mathlib.Core.Path.{_≡_};
 ghost use mathlib.Core.Bool.{true};
 ghost use Prim.Native.Nat.{_*_, _/_, _<_, _≤_};
 ghost use lib.ListN.{length, getD, set, replicate};
+ghost use Rattle.words.specs.Tests.{all};
 ghost use Rattle.records.specs.Soundness.{recordSound, recordsSound};
 ghost use Rattle.records.specs.Order.{openIn};
 ghost use Rattle.records.specs.Recovery.{redone, undoneIn, recovered};
-ghost use Rattle.recovering.specs.Rebuilding.{takenBack};
+ghost use Rattle.pages.specs.Soundness.{freeZero};
+ghost use Rattle.recovering.specs.Rebuilding.{leaving, takenBack};
+use page_ops::bits;
 use records::Record;
 
 // One area becomes another.
-fn copy_area(from: &[u32], to: &mut [u32])
+pub fn copy_area(from: &[u32], to: &mut [u32])
     requires { ⌜ length (now to) ≡ length (now from) ⌝ }
     ensures { λ _. ⌜ now (to .exit) ≡ now (from .entry) ⌝ }
 {
@@ -48,37 +51,39 @@ fn take_back_of(a: &mut [u32], m: u32, r: Record)
     record_ops::take_back(a, r);
 }
 
+// The transactions of m without the one that a record begins: what is undone of it ends there.
+fn leave(m: u32, r: Record) -> u32
+    requires { ⌜ r .txn < 16 ⌝ }
+    ensures { λ x. ⌜ x ≡ leaving m r ⌝ }
+{
+    if r.kind == 1 {
+        return bits::without_bit(m, r.txn as usize);
+    }
+    m
+}
+
 // The transactions of m are undone over the first c records, newest first.
 fn undo(a: &mut [u32], log: &[u32], c: usize, m: u32)
     requires { ⌜ (6 * c ≤ length (now log)) × (recordsSound (length (now a) / 129) (now log) c ≡ true) ⌝ }
     ensures { λ _. ⌜ now (a .exit) ≡ undoneIn (now (log .entry)) m c (now (a .entry)) ⌝ }
 {
     let mut left = m;
-    let mut i = c;
-    while 0 < i {
-        i -= 1;
-        let r = log_reader::record_at(log, i);
+    for back in 1..c + 1 {
+        let r = log_reader::record_at(log, c - back);
         take_back_of(a, left, r);
-        left = page_replay::leave(left, r);
+        left = leave(left, r);
     }
 }
 
-// Received pages and copies become what the stored pages and the first c records give.
-pub fn rebuild(
-    stored: &[u32],
-    copies: &mut [u32],
-    received: &mut [u32],
-    log: &[u32],
-    c: usize,
-    m: u32,
-)
-    requires { ⌜ (length (now copies) ≡ length (now stored)) × (length (now received) ≡ length (now stored)) × (6 * c ≤ length (now log)) × (recordsSound (length (now stored) / 129) (now log) c ≡ true) × (m ≡ openIn (now log) c) ⌝ }
-    ensures { λ _. ⌜ (now (copies .exit) ≡ recovered (now (stored .entry)) (now (log .entry)) c) × (now (received .exit) ≡ recovered (now (stored .entry)) (now (log .entry)) c) ⌝ }
+// An area becomes what the stored pages and the first c records give. Answers whether the free slots of its n pages are zero.
+pub fn recover(stored: &[u32], a: &mut [u32], log: &[u32], n: usize, c: usize, m: u32) -> bool
+    requires { ⌜ (length (now a) ≡ length (now stored)) × (length (now stored) ≡ 129 * n) × (6 * c ≤ length (now log)) × (recordsSound n (now log) c ≡ true) × (m ≡ openIn (now log) c) ⌝ }
+    ensures { λ b. ⌜ (b ≡ all (freeZero (recovered (now (stored .entry)) (now (log .entry)) c)) n) × (now (a .exit) ≡ recovered (now (stored .entry)) (now (log .entry)) c) ⌝ }
 {
-    copy_area(stored, received);
-    redo(received, log, c);
-    undo(received, log, c, m);
-    copy_area(received, copies);
+    copy_area(stored, a);
+    redo(a, log, c);
+    undo(a, log, c, m);
+    page_ops::sound::pages_free_zero(a, n)
 }
 
 // The received count becomes the stable count, and the working tables clear but for a running reopening.

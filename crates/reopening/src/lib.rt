@@ -1,11 +1,44 @@
 // Reopening after a cut: what the stored pages and the stable records give, and the steps that make it stable.
 ghost use mathlib.Core.Path.{_≡_};
+ghost use mathlib.Core.Bool.{true};
+ghost use lib.ListN.{length};
 ghost use Rattle.areas.specs.Areas.{areas, out};
+ghost use Rattle.areas.specs.Ranges.{fit};
 ghost use Rattle.calls.specs.Reopening.{callReopen, callRestep};
 use areas::Answer;
 use areas::Ready;
 use areas::Refusal;
 use recovering::Scan;
+
+// Reopens areas whose lengths fit. The pages are made in room, since nothing lent may change before all of refusal 14 is known.
+fn reopen_in(
+    stored: &[u32],
+    copies: &mut [u32],
+    received: &mut [u32],
+    log: &[u32],
+    counts: &mut [u32],
+    work: &mut [u32],
+    room: &mut [u32],
+) -> Answer
+    requires { ⌜ (fit (areas (now stored) (now copies) (now received) (now log) (now counts) (now work)) ≡ true) × (length (now room) ≡ length (now stored)) ⌝ }
+    ensures { λ r. ⌜ out r (now (stored .exit)) (now (copies .exit)) (now (received .exit)) (now (log .exit)) (now (counts .exit)) (now (work .exit)) ≡ callReopen (areas (now (stored .entry)) (now (copies .entry)) (now (received .entry)) (now (log .entry)) (now (counts .entry)) (now (work .entry))) ⌝ }
+{
+    let n = stored.len() / 129;
+    let stable = counts[1] as usize;
+    let s = recovering::find_open(stored, log, n, log.len() / 6, stable);
+    match s {
+        Scan::Refuse(x) => Answer::Refused(x),
+        Scan::Open(m) => {
+            if !recovering::recover(stored, room, log, n, stable, m) {
+                return Answer::Refused(Refusal::Unsound);
+            }
+            recovering::copy_area(room, received);
+            recovering::copy_area(room, copies);
+            recovering::restart(counts, work);
+            Answer::Done(0)
+        }
+    }
+}
 
 // Reopens: received pages and copies become what the stored pages and the stable records give. Looks at the lengths, the stored pages,
 // the stable count and its records only, and may be called at any time.
@@ -29,16 +62,16 @@ pub fn reopen(
     ) {
         return Answer::Refused(Refusal::Malformed);
     }
-    let stable = counts[1] as usize;
-    let s = recovering::find_open(stored, log, stored.len() / 129, log.len() / 6, stable);
-    match s {
-        Scan::Refuse(x) => Answer::Refused(x),
-        Scan::Open(m) => {
-            recovering::rebuild(stored, copies, received, log, stable, m);
-            recovering::restart(counts, work);
-            Answer::Done(0)
-        }
-    }
+    let mut room = [0u32; 33024];
+    reopen_in(
+        stored,
+        copies,
+        received,
+        log,
+        counts,
+        work,
+        &mut room[..stored.len()],
+    )
 }
 
 // One reopening step: stores the next page, or, after the last, empties the log and ends the reopening.

@@ -1,11 +1,21 @@
 use native.Mathlib.Omega.{arith}
-use mathlib.Core.Path.{sym, _∙_}
+use Prim.Native.Nat.{ℕ, _≤_}
+use mathlib.Core.Path.{_≡_, sym, subst, _∙_}
+use lib.ListN.{length, take, replicate, length-replicate}
+use lib.Seq.{length-take-le}
 use borrow.Author.Tests.{not-true, not-false}
 use Rattle.acceptance.specs.Lengths.{lengths-facts}
-use Rattle.reopening.specs.Reopens.{found-recovers, reopen-malformed, reopen-unsound, reopen-done}
+use Rattle.reopening.specs.Reopens.{reopen-malformed}
 use borrow.Author.Needs.{needs}
 use Rattle.reopening.proofs.reopen.Statement.{statement}
 use Rattle.reopening.proofs.reopen.Tie as tie
+
+-- the first n words of an array of m
+prefix : (n m v : ℕ) → n ≤ m → length (take n (replicate m v)) ≡ n
+prefix n m v l = length-take-le n (replicate m v) (subst (λ (k : ℕ). n ≤ k) (sym (length-replicate m v)) l)
+
+prefix-in : (n m v : ℕ) → n ≤ m → n ≤ length (replicate m v)
+prefix-in n m v l = subst (λ (k : ℕ). n ≤ k) (sym (length-replicate m v)) l
 
 lengths-fit-requires : tie.Need-lengths-fit-requires
 lengths-fit-requires c κs = search needs
@@ -13,29 +23,14 @@ lengths-fit-requires c κs = search needs
 returns : tie.Need-returns
 returns c = reopen-malformed _ _ _ _ _ _ (sym (c .before .lengths-fit .ensures) ∙ not-true _ (c .if1 .taken))
 
-slice-read-stable : tie.Need-slice-read-stable
-slice-read-stable c = let h = lengths-facts _ _ _ _ _ _ (sym (c .before .before .lengths-fit .ensures) ∙ not-false _ (c .before .if1 .left)) in omega arith
+array-borrow-prefix-room : tie.Need-array-borrow-prefix-room
+array-borrow-prefix-room c = let h = lengths-facts _ _ _ _ _ _ (sym (c .before .before .before .before .before .lengths-fit .ensures) ∙ not-false _ (c .before .before .before .before .if1 .left)) in prefix-in _ 33024 0 (omega arith)
 
-cast-stable : tie.Need-cast-stable
-cast-stable c = omega (arith, c .slice-known5 .given 1)
+slice-aggregate-reopen-in : tie.Need-slice-aggregate-reopen-in
+slice-aggregate-reopen-in c = let h = lengths-facts _ _ _ _ _ _ (sym (c .before .before .before .before .before .before .lengths-fit .ensures) ∙ not-false _ (c .before .before .before .before .before .if1 .left)) in sym (prefix _ 33024 0 (omega arith))
 
-find-open-requires : tie.Need-find-open-requires
-find-open-requires c κs = let h = lengths-facts _ _ _ _ _ _ (sym (c .before .before .lengths-fit .ensures) ∙ not-false _ (c .before .if1 .left)) in (h .low, h .top, h .stored-len, h .log-len)
-
-enum-known-s : tie.Need-enum-known-s
-enum-known-s c = search needs
-
-enum-known-s-2 : tie.Need-enum-known-s-2
-enum-known-s-2 c = search needs
-
-rebuild-requires : tie.Need-rebuild-requires
-rebuild-requires c κs = let h = lengths-facts _ _ _ _ _ _ (sym (c .before .before .before .before .before .before .before .before .lengths-fit .ensures) ∙ not-false _ (c .before .before .before .before .before .before .before .if1 .left)) in let f = found-recovers (c .before .before .before .before .before .before .before .before .before .before .before .before .before .before .before .args .stored .now) _ _ _ (sym (c .before .before .before .before .before .find-open .ensures) ∙ c .before .before .before .s2 .given .1) in (omega arith, omega arith, f .fits, f .sound, f .left)
-
-restart-requires : tie.Need-restart-requires
-restart-requires c κs = let h = lengths-facts _ _ _ _ _ _ (sym (c .before .before .before .before .before .before .before .before .before .before .before .before .before .before .before .lengths-fit .ensures) ∙ not-false _ (c .before .before .before .before .before .before .before .before .before .before .before .before .before .before .if1 .left)) in (omega arith, omega arith)
-
-returns-2 : tie.Need-returns-2
-returns-2 c = reopen-unsound _ _ _ _ _ _ (sym (c .before .before .before .before .before .before .lengths-fit .ensures) ∙ not-false _ (c .before .before .before .before .before .if1 .left)) _ (sym (c .before .before .before .find-open .ensures) ∙ c .before .s .given .1)
+reopen-in-requires : tie.Need-reopen-in-requires
+reopen-in-requires c κs = let h = lengths-facts _ _ _ _ _ _ (sym (c .before .before .before .before .before .before .lengths-fit .ensures) ∙ not-false _ (c .before .before .before .before .before .if1 .left)) in (sym (c .before .before .before .before .before .before .lengths-fit .ensures) ∙ not-false _ (c .before .before .before .before .before .if1 .left), prefix _ 33024 0 (omega arith))
 
 same-length : tie.Need-same-length
 same-length c = search needs
@@ -49,8 +44,8 @@ same-length-3 c = search needs
 same-length-4 : tie.Need-same-length-4
 same-length-4 c = search needs
 
-returns-3 : tie.Need-returns-3
-returns-3 c = reopen-done _ _ _ _ _ _ (sym (c .before .before .before .before .before .before .before .before .before .before .before .before .before .before .before .before .before .before .before .before .lengths-fit .ensures) ∙ not-false _ (c .before .before .before .before .before .before .before .before .before .before .before .before .before .before .before .before .before .before .before .if1 .left)) _ (sym (c .before .before .before .before .before .before .before .before .before .before .before .before .before .before .before .before .before .find-open .ensures) ∙ c .before .before .before .before .before .before .before .before .before .before .before .before .before .before .before .s2 .given .1) (c .before .before .before .before .before .before .before .before .before .before .before .rebuild .ensures .0) (c .before .before .before .before .before .before .before .before .before .before .before .rebuild .ensures .1) (c .before .before .before .before .restart .ensures .0) (c .before .before .before .before .restart .ensures .1)
+returns-2 : tie.Need-returns-2
+returns-2 c = c .before .before .before .before .before .before .before .before .before .reopen-in .ensures
 
 pub reopen-spec : {M : Type 1} → statement M
 reopen-spec =
@@ -58,16 +53,11 @@ reopen-spec =
     (tie.spec
     lengths-fit-requires
     returns
-    slice-read-stable
-    cast-stable
-    find-open-requires
-    enum-known-s
-    enum-known-s-2
-    rebuild-requires
-    restart-requires
-    returns-2
+    array-borrow-prefix-room
+    slice-aggregate-reopen-in
+    reopen-in-requires
     same-length
     same-length-2
     same-length-3
     same-length-4
-    returns-3)
+    returns-2)

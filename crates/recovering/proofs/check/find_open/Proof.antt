@@ -1,8 +1,6 @@
-use native.Mathlib.Omega.{arith}
 use mathlib.Core.Path.{sym, _∙_}
 use borrow.Author.Tests.{not-true, not-false}
-use Rattle.record_laws.specs.RecordLaws.{log-sound-records}
-use Rattle.recovering.specs.Reading.{scan-open, scan-clash, found-count, found-stored, found-log, found-free, found-open}
+use Rattle.recovering.specs.Reading.{scan-open, scan-clash, found-count, found-stored, found-log, found-open}
 use borrow.Author.Needs.{needs}
 use Rattle.recovering.proofs.check.find_open.Statement.{statement}
 use Rattle.recovering.proofs.check.find_open.Tie as tie
@@ -34,14 +32,8 @@ enum-told c = search needs
 returns-4 : tie.Need-returns-4
 returns-4 c = scan-clash _ _ _ _ (sym (c .before .before .before .before .log-sound .ensures) ∙ not-false _ (c .before .before .before .if3 .left)) (sym (c .before .before .open-after .ensures) ∙ c .enum-told .given .1)
 
-all-recover-requires : tie.Need-all-recover-requires
-all-recover-requires c κs = let h = c .before .before .before .before .before .before .before .before .before .before .before .pre in let l = c .before .before .before .before .before .before .before .before .if1 .left in (h .1, h .2, omega arith, log-sound-records _ _ _ (sym (c .before .before .before .before .before .log-sound .ensures) ∙ not-false _ (c .before .before .before .before .if3 .left)), scan-open _ _ _ _ (sym (c .before .before .before .before .before .log-sound .ensures) ∙ not-false _ (c .before .before .before .before .if3 .left)) (sym (c .before .before .before .open-after .ensures) ∙ c .before .m .given .1))
-
 returns-5 : tie.Need-returns-5
-returns-5 c = found-free _ _ _ _ _ (sym (c .before .all-recover .ensures) ∙ not-true _ (c .if4 .taken))
-
-returns-6 : tie.Need-returns-6
-returns-6 c = found-open _ _ _ _ _ _ (c .before .before .before .before .before .before .before .before .before .before .if1 .left) (sym (c .before .before .before .before .before .before .before .before .before .area-sound .ensures) ∙ not-false _ (c .before .before .before .before .before .before .before .before .if2 .left)) (sym (c .before .before .before .before .before .before .before .log-sound .ensures) ∙ not-false _ (c .before .before .before .before .before .before .if3 .left)) (scan-open _ _ _ _ (sym (c .before .before .before .before .before .before .before .log-sound .ensures) ∙ not-false _ (c .before .before .before .before .before .before .if3 .left)) (sym (c .before .before .before .before .before .open-after .ensures) ∙ c .before .before .before .m .given .1)) (sym (c .before .all-recover .ensures) ∙ not-false _ (c .if4 .left))
+returns-5 c = found-open _ _ _ _ _ _ (c .before .before .before .before .before .before .before .before .if1 .left) (sym (c .before .before .before .before .before .before .before .area-sound .ensures) ∙ not-false _ (c .before .before .before .before .before .before .if2 .left)) (sym (c .before .before .before .before .before .log-sound .ensures) ∙ not-false _ (c .before .before .before .before .if3 .left)) (scan-open _ _ _ _ (sym (c .before .before .before .before .before .log-sound .ensures) ∙ not-false _ (c .before .before .before .before .if3 .left)) (sym (c .before .before .before .open-after .ensures) ∙ c .before .m .given .1))
 
 pub find-open-spec : {M : Type 1} → statement M
 find-open-spec =
@@ -56,6 +48,4 @@ find-open-spec =
     enum-known-m
     enum-told
     returns-4
-    all-recover-requires
-    returns-5
-    returns-6)
+    returns-5)

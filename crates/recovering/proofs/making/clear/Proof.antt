@@ -3,8 +3,7 @@ use native.Mathlib.Omega.{arith}
 use mathlib.Core.Path.{_≡_, refl}
 use Prim.Native.Nat.{_≤_, _-_}
 use lib.ListN.{length}
-use Rattle.page_replay.specs.Pages.{FilledTo, filled-next}
-use Rattle.recovering.specs.Rebuilding.{filled-zero}
+use Rattle.recovering.specs.Rebuilding.{FilledTo, filled-next, filled-zero}
 use Rattle.recovering.proofs.making.clear.Statement.{statement}
 use Rattle.recovering.proofs.making.clear.Tie as tie
 

@@ -3,8 +3,7 @@ use native.Mathlib.Omega.{arith}
 use mathlib.Core.Path.{_≡_, refl}
 use Prim.Native.Nat.{_≤_, _-_}
 use lib.ListN.{length, getD}
-use Rattle.page_replay.specs.Pages.{FilledTo, filled-next}
-use Rattle.recovering.specs.Rebuilding.{filled-same}
+use Rattle.recovering.specs.Rebuilding.{FilledTo, filled-next, filled-same}
 use Rattle.recovering.proofs.making.copy_area.Statement.{statement}
 use Rattle.recovering.proofs.making.copy_area.Tie as tie
 

@@ -1,46 +1,52 @@
-use borrow.Author.Needs.{needs}
 use native.Mathlib.Omega.{arith}
 use mathlib.Core.Path.{_≡_, refl, _∙_}
-use Prim.Native.Nat.{_≤_, _-_}
+use Prim.Native.Nat.{_+_, _≤_, _-_}
 use lib.ListN.{length}
 use Rattle.records.specs.Recovery.{undoneIn}
 use Rattle.record_laws.specs.RecordLaws.{record-facts}
-use Rattle.recovering.specs.Rebuilding.{undone-down, undone-end, sound-here}
+use Rattle.recovering.specs.Rebuilding.{undone-first, undone-back, undone-end, sound-here}
+use borrow.Author.Needs.{needs}
 use Rattle.recovering.proofs.making.undo.Statement.{statement}
 use Rattle.recovering.proofs.making.undo.Tie as tie
 
 abbrev Inv-loop : tie.InvT-loop
-Inv-loop a₀ log c m left₀ i₀ a left i = (i ≤ c) × (length a ≡ length a₀) × (undoneIn log left i a ≡ undoneIn log m c a₀)
+Inv-loop a₀ log c m left₀ back₀ back-end a left back = (1 ≤ back) × (back ≤ c + 1) × (back-end ≡ c + 1) × (length a ≡ length a₀) × (undoneIn log left (c + 1 - back) a ≡ undoneIn log m c a₀)
 
 abbrev μ-loop : tie.MeasureT-loop
-μ-loop a₀ log c m left₀ i₀ a left i = i
+μ-loop a₀ log c m left₀ back₀ back-end a left back = c + 1 - back
+
+add-back-end : tie.Need-add-back-end Inv-loop μ-loop
+add-back-end c = search needs
 
 loop-holds : tie.Need-loop-holds Inv-loop μ-loop
-loop-holds c = (omega arith, refl, refl)
+loop-holds c = (omega arith, omega arith, refl, refl, undone-first _ _ _ _)
 
-sub-i : tie.Need-sub-i Inv-loop μ-loop
-sub-i c = search needs
+sub-record-at : tie.Need-sub-record-at Inv-loop μ-loop
+sub-record-at c = search needs
 
 record-at-requires : tie.Need-record-at-requires Inv-loop μ-loop
 record-at-requires c κs = search needs
 
 take-back-of-requires : tie.Need-take-back-of-requires Inv-loop μ-loop
-take-back-of-requires c κs = sound-here (c .before .before .before .before .before .before .args .a .now) (c .before .before .before .loop .a) (c .before .before .before .before .before .before .args .log .now) (c .before .before .before .before .before .before .args .c) (c .before .before .before .loop .i - 1) (c .before .record-at .result) (c .before .before .before .loop .inv .1) (c .before .record-at .ensures) (c .before .before .before .before .before .before .pre .1) (omega arith)
+take-back-of-requires c κs = sound-here (c .before .before .before .before .before .before .args .a .now) (c .before .before .before .loop .a) (c .before .before .before .before .before .before .args .log .now) (c .before .before .before .before .before .before .args .c) (c .before .before .before .before .before .before .args .c - c .before .before .before .loop .back) (c .before .record-at .result) (c .before .before .before .loop .inv .3) (c .before .record-at .ensures) (c .before .before .before .before .before .before .pre .1) (omega arith)
 
 leave-requires : tie.Need-leave-requires Inv-loop μ-loop
 leave-requires c κs = record-facts _ _ _ _ _ (c .before .before .before .before .record-at .ensures) (c .before .before .before .before .before .before .before .before .before .pre .1) (omega arith) .txn-below
+
+add-back : tie.Need-add-back Inv-loop μ-loop
+add-back c = search needs
 
 loop-less : tie.Need-loop-less Inv-loop μ-loop
 loop-less c = search needs
 
 loop-again : tie.Need-loop-again Inv-loop μ-loop
-loop-again c = (omega arith, search needs, undone-down _ _ _ _ _ (c .before .before .before .before .before .before .loop-test .taken) (c .before .before .before .before .before .record-at .ensures) (c .leave .ensures) (c .before .before .before .take-back-of .ensures) ∙ c .before .before .before .before .before .before .before .loop .inv .2)
+loop-again c = (omega arith, omega arith, search needs, search needs, undone-back _ _ _ _ _ _ (c .before .before .before .before .before .before .before .loop .inv .0) (omega arith) (c .before .before .before .before .before .record-at .ensures) (c .leave .ensures) (c .before .before .before .take-back-of .ensures) ∙ c .before .before .before .before .before .before .before .loop .inv .4)
 
 same-length : tie.Need-same-length Inv-loop μ-loop
 same-length c = search needs
 
 returns : tie.Need-returns Inv-loop μ-loop
-returns c = undone-end _ _ _ _ (omega arith) ∙ c .before .loop .inv .2
+returns c = undone-end _ _ _ _ (omega arith) ∙ c .before .loop .inv .4
 
 pub undo-spec : {M : Type 1} → statement M
 undo-spec =
@@ -48,11 +54,13 @@ undo-spec =
     (tie.spec
     Inv-loop
     μ-loop
+    add-back-end
     loop-holds
-    sub-i
+    sub-record-at
     record-at-requires
     take-back-of-requires
     leave-requires
+    add-back
     loop-less
     loop-again
     same-length

@@ -2,8 +2,8 @@ use mathlib.Core.Path.{sym, _∙_}
 use Rattle.words.specs.Tests.{if-t, if-f}
 use borrow.Author.Tests.{eq-eqb, ne-eqb}
 use borrow.Author.Needs.{needs}
-use Rattle.page_replay.proofs.leave.Statement.{statement}
-use Rattle.page_replay.proofs.leave.Tie as tie
+use Rattle.recovering.proofs.making.leave.Statement.{statement}
+use Rattle.recovering.proofs.making.leave.Tie as tie
 
 cast-without-bit : tie.Need-cast-without-bit
 cast-without-bit c = search needs
