@@ -9,7 +9,7 @@ use lib.Seq.{ext-getD, getD-set-same, getD-set-other}
 use native.Mathlib.Decide.{ℕ-discrete}
 use native.Mathlib.Omega.{arith}
 use Rattle.words.specs.Tests.{if, by-bool}
-use Rattle.words.specs.Bits.{bit, withoutBit}
+use Rattle.words.specs.Bits.{bit, withoutBit, bit-none}
 use Rattle.records.specs.declared.Record.{Record}
 use Rattle.records.specs.Records.{recordAt}
 use Rattle.records.specs.Soundness.{recordSound, recordsSound}
@@ -35,6 +35,14 @@ filled-same b a i e u h = ext-getD 0 b a e (λ k l. h k (omega arith))
 
 pub filled-zero : (b : List ℕ) (n i : ℕ) → length b ≡ n → n ≤ i → FilledTo b (λ k. 0) i → b ≡ replicate n 0
 filled-zero b n i e u h = ext-getD 0 b (replicate n 0) (e ∙ sym (length-replicate n 0)) (λ k l. h k (omega arith) ∙ sym (getD-replicate n k 0 0 (omega arith)))
+
+if-same : (b : Bool) (x : ℕ) → if b x x ≡ x
+if-same true x = refl
+if-same false x = refl
+
+without-none : (t : ℕ) → withoutBit 0 t ≡ 0
+unfolding withoutBit
+without-none t = rw (bit-none t)
 
 -- the mask without the transaction that a record begins
 abbrev pub leaving : ℕ → Record → ℕ
@@ -68,6 +76,15 @@ pub undone-end : (g : List ℕ) (m i : ℕ) (a : List ℕ) → i ≤ 0 → a ≡
 unfolding undoneIn
 undone-end g m zero a l = refl
 undone-end g m (suc i) a l = absurd (omega arith)
+
+-- once no transaction is left there is nothing to undo
+pub undone-none : (g : List ℕ) (m i : ℕ) (a : List ℕ) → m ≡ 0 → a ≡ undoneIn g m i a
+unfolding undoneIn
+undone-none g m zero a e = refl
+undone-none g m (suc i) a e = let r = recordAt g i in
+    let kept : leaving m r ≡ 0 = rw (e, without-none (r .txn)) (if-same (eqb (r .kind) 1) 0) in
+    let same : takenBack m a r ≡ a = rw (e, bit-none (r .txn)) in
+    undone-none g (leaving m r) i a kept ∙ ap (undoneIn g (leaving m r) i) (sym same)
 
 -- a record of the log, for an area as long as the one that the log is sound for
 pub sound-here : (a x g : List ℕ) (c i : ℕ) (r : Record) → length x ≡ length a → r ≡ recordAt g i → recordsSound (length a / 129) g c ≡ true → i < c

@@ -69,6 +69,9 @@ fn undo(a: &mut [u32], log: &[u32], c: usize, m: u32)
 {
     let mut left = m;
     for back in 1..c + 1 {
+        if left == 0 {
+            return;
+        }
         let r = log_reader::record_at(log, c - back);
         take_back_of(a, left, r);
         left = leave(left, r);

@@ -41,7 +41,8 @@ fn reopen_in(
 }
 
 // Reopens: received pages and copies become what the stored pages and the stable records give. Looks at the lengths, the stored pages,
-// the stable count and its records only, and may be called at any time.
+// the stable count and its records only, and may be called at any time. Room for 16 pages where they do: 256 take longer to clear than a
+// small store to reopen.
 pub fn reopen(
     stored: &[u32],
     copies: &mut [u32],
@@ -62,16 +63,14 @@ pub fn reopen(
     ) {
         return Answer::Refused(Refusal::Malformed);
     }
-    let mut room = [0u32; 33024];
-    reopen_in(
-        stored,
-        copies,
-        received,
-        log,
-        counts,
-        work,
-        &mut room[..stored.len()],
-    )
+    if stored.len() <= 2064 {
+        let mut small = [0u32; 2064];
+        let room = &mut small[..stored.len()];
+        return reopen_in(stored, copies, received, log, counts, work, room);
+    }
+    let mut large = [0u32; 33024];
+    let room = &mut large[..stored.len()];
+    reopen_in(stored, copies, received, log, counts, work, room)
 }
 
 // One reopening step: stores the next page, or, after the last, empties the log and ends the reopening.

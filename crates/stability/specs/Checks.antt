@@ -7,6 +7,7 @@ use lib.ListN.{length, getD}
 use lib.Dec.{leb, ltb, eqb}
 use native.Mathlib.Omega.{arith}
 use borrow.Author.Tests.{lt-ltb, le-ltb, le-leb, lt-leb}
+use Rattle.words.specs.Tests.{and-t, and-f}
 use Rattle.words.specs.Spans.{same}
 use Rattle.records.specs.Naming.{lastNaming}
 use Rattle.areas.specs.declared.Refusal.the-variants.{OutOfRange, Unstable, InUse}
@@ -64,11 +65,19 @@ pub empty-of : (s c r g k w : List ℕ) → emptyOf s c k w ≡ emptyCheck (area
 unfolding emptyOf emptyCheck
 empty-of s c r g k w = refl
 
-module _ (s c k w : List ℕ) (b : Bool) (e : b ≡ same c 0 s 0 (length c)) (len : length c ≡ length s) where
-  pub empty-refuses : (eqb (at w activeAt) 0 && eqb (getD k 1 0) (getD k 0 0) && b) ≡ false → Refuse InUse ≡ emptyOf s c k w
-  unfolding emptyOf
-  empty-refuses h = need-fails _ _ _ (rw (e, len) at h)
+module _ (s c k w : List ℕ) where
+  abbrev idle : Bool
+  idle = eqb (at w activeAt) 0 && eqb (getD k 1 0) (getD k 0 0)
 
-  pub empty-passes : (eqb (at w activeAt) 0 && eqb (getD k 1 0) (getD k 0 0) && b) ≡ true → Pass ≡ emptyOf s c k w
+  pub empty-busy : idle ≡ false → Refuse InUse ≡ emptyOf s c k w
   unfolding emptyOf
-  empty-passes h = need-holds _ _ _ (rw (e, len) at h)
+  empty-busy h = need-fails _ _ _ (and-f _ _ h)
+
+  module _ (rest : idle ≡ true) (b : Bool) (e : b ≡ same c 0 s 0 (length c)) (len : length c ≡ length s) where
+    pub empty-refuses : b ≡ false → Refuse InUse ≡ emptyOf s c k w
+    unfolding emptyOf
+    empty-refuses h = need-fails _ _ _ (and-t _ _ rest ∙ (rw (e, len) at h))
+
+    pub empty-passes : b ≡ true → Pass ≡ emptyOf s c k w
+    unfolding emptyOf
+    empty-passes h = need-holds _ _ _ (and-t _ _ rest ∙ (rw (e, len) at h))

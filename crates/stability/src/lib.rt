@@ -87,8 +87,10 @@ fn empty_check(stored: &[u32], copies: &[u32], counts: &[u32], work: &[u32]) -> 
     requires { ⌜ (length (now copies) ≡ length (now stored)) × (length (now counts) ≡ 2) × (6 ≤ length (now work)) ⌝ }
     ensures { λ r. ⌜ r ≡ emptyOf (now (stored .entry)) (now (copies .entry)) (now (counts .entry)) (now (work .entry)) ⌝ }
 {
-    let idle = (work[5] == 0) & (counts[1] == counts[0]);
-    if !(idle & page_ops::copy::areas_agree(copies, stored)) {
+    if !((work[5] == 0) & (counts[1] == counts[0])) {
+        return Check::Refuse(Refusal::InUse);
+    }
+    if !page_ops::copy::areas_agree(copies, stored) {
         return Check::Refuse(Refusal::InUse);
     }
     Check::Pass

@@ -4,7 +4,7 @@ use Prim.Native.Nat.{_+_, _≤_, _-_}
 use lib.ListN.{length}
 use Rattle.records.specs.Recovery.{undoneIn}
 use Rattle.record_laws.specs.RecordLaws.{record-facts}
-use Rattle.recovering.specs.Rebuilding.{undone-first, undone-back, undone-end, sound-here}
+use Rattle.recovering.specs.Rebuilding.{undone-first, undone-back, undone-end, undone-none, sound-here}
 use borrow.Author.Needs.{needs}
 use Rattle.recovering.proofs.making.undo.Statement.{statement}
 use Rattle.recovering.proofs.making.undo.Tie as tie
@@ -21,6 +21,12 @@ add-back-end c = search needs
 loop-holds : tie.Need-loop-holds Inv-loop μ-loop
 loop-holds c = (omega arith, omega arith, refl, refl, undone-first _ _ _ _)
 
+same-length : tie.Need-same-length Inv-loop μ-loop
+same-length c = search needs
+
+returns : tie.Need-returns Inv-loop μ-loop
+returns c = undone-none _ _ _ _ (c .if1 .taken) ∙ c .before .before .loop .inv .4
+
 sub-record-at : tie.Need-sub-record-at Inv-loop μ-loop
 sub-record-at c = search needs
 
@@ -28,10 +34,10 @@ record-at-requires : tie.Need-record-at-requires Inv-loop μ-loop
 record-at-requires c κs = search needs
 
 take-back-of-requires : tie.Need-take-back-of-requires Inv-loop μ-loop
-take-back-of-requires c κs = sound-here (c .before .before .before .before .before .before .args .a .now) (c .before .before .before .loop .a) (c .before .before .before .before .before .before .args .log .now) (c .before .before .before .before .before .before .args .c) (c .before .before .before .before .before .before .args .c - c .before .before .before .loop .back) (c .before .record-at .result) (c .before .before .before .loop .inv .3) (c .before .record-at .ensures) (c .before .before .before .before .before .before .pre .1) (omega arith)
+take-back-of-requires c κs = sound-here (c .before .before .before .before .before .before .before .args .a .now) (c .before .before .before .before .loop .a) (c .before .before .before .before .before .before .before .args .log .now) (c .before .before .before .before .before .before .before .args .c) (c .before .before .before .before .before .before .before .args .c - c .before .before .before .before .loop .back) (c .before .record-at .result) (c .before .before .before .before .loop .inv .3) (c .before .record-at .ensures) (c .before .before .before .before .before .before .before .pre .1) (omega arith)
 
 leave-requires : tie.Need-leave-requires Inv-loop μ-loop
-leave-requires c κs = record-facts _ _ _ _ _ (c .before .before .before .before .record-at .ensures) (c .before .before .before .before .before .before .before .before .before .pre .1) (omega arith) .txn-below
+leave-requires c κs = record-facts _ _ _ _ _ (c .before .before .before .before .record-at .ensures) (c .before .before .before .before .before .before .before .before .before .before .pre .1) (omega arith) .txn-below
 
 add-back : tie.Need-add-back Inv-loop μ-loop
 add-back c = search needs
@@ -40,13 +46,13 @@ loop-less : tie.Need-loop-less Inv-loop μ-loop
 loop-less c = search needs
 
 loop-again : tie.Need-loop-again Inv-loop μ-loop
-loop-again c = (omega arith, omega arith, search needs, search needs, undone-back _ _ _ _ _ _ (c .before .before .before .before .before .before .before .loop .inv .0) (omega arith) (c .before .before .before .before .before .record-at .ensures) (c .leave .ensures) (c .before .before .before .take-back-of .ensures) ∙ c .before .before .before .before .before .before .before .loop .inv .4)
+loop-again c = (omega arith, omega arith, search needs, search needs, undone-back _ _ _ _ _ _ (c .before .before .before .before .before .before .before .before .loop .inv .0) (omega arith) (c .before .before .before .before .before .record-at .ensures) (c .leave .ensures) (c .before .before .before .take-back-of .ensures) ∙ c .before .before .before .before .before .before .before .before .loop .inv .4)
 
-same-length : tie.Need-same-length Inv-loop μ-loop
-same-length c = search needs
+same-length-2 : tie.Need-same-length-2 Inv-loop μ-loop
+same-length-2 c = search needs
 
-returns : tie.Need-returns Inv-loop μ-loop
-returns c = undone-end _ _ _ _ (omega arith) ∙ c .before .loop .inv .4
+returns-2 : tie.Need-returns-2 Inv-loop μ-loop
+returns-2 c = undone-end _ _ _ _ (omega arith) ∙ c .before .loop .inv .4
 
 pub undo-spec : {M : Type 1} → statement M
 undo-spec =
@@ -56,6 +62,8 @@ undo-spec =
     μ-loop
     add-back-end
     loop-holds
+    same-length
+    returns
     sub-record-at
     record-at-requires
     take-back-of-requires
@@ -63,5 +71,5 @@ undo-spec =
     add-back
     loop-less
     loop-again
-    same-length
-    returns)
+    same-length-2
+    returns-2)
