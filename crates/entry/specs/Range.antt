@@ -17,11 +17,26 @@ pub range-of : (s c r g k w : List ℕ) (n l : ℕ) → rangeOf c r g k w n l �
 unfolding inRange
 range-of s c r g k w n l = refl
 
+-- by the tests, in their order
 module _ (c r g k w : List ℕ) (n l : ℕ) where
   pub range-stops : countsInRange k l ≡ false → false ≡ rangeOf c r g k w n l
   unfolding inRange
   range-stops e = rw e
 
-  pub range-goes : {a b d e : Bool} → countsInRange k l ≡ true → a ≡ workInRange w n → b ≡ areaSound r n → d ≡ areaSound c n → e ≡ recordsSound n g (getD k 0 0) → a && b && d && e ≡ rangeOf c r g k w n l
-  unfolding inRange
-  range-goes h ha hb hd he = rw (h, ha, hb, hd, he)
+  module _ (counts : countsInRange k l ≡ true) where
+    pub work-stops : workInRange w n ≡ false → false ≡ rangeOf c r g k w n l
+    unfolding inRange
+    work-stops e = rw (counts, e)
+
+    module _ (work : workInRange w n ≡ true) where
+      pub received-stops : areaSound r n ≡ false → false ≡ rangeOf c r g k w n l
+      unfolding inRange
+      received-stops e = rw (counts, work, e)
+
+      pub copies-stop : areaSound r n ≡ true → areaSound c n ≡ false → false ≡ rangeOf c r g k w n l
+      unfolding inRange
+      copies-stop h e = rw (counts, work, h, e)
+
+      pub range-goes : {e : Bool} → areaSound r n ≡ true → areaSound c n ≡ true → e ≡ recordsSound n g (getD k 0 0) → e ≡ rangeOf c r g k w n l
+      unfolding inRange
+      range-goes h i e = rw (counts, work, h, i) e

@@ -1,7 +1,7 @@
 -- Runs of working words, as the code scans them, and the tests that they give. Assumes nothing.
 use Prim.Native.Nat.{ℕ, _+_, _*_, _-_, _≤_}
-use mathlib.Core.Path.{_≡_, sym, ap, _∙_}
-use mathlib.Core.Bool.{Bool, true, _&&_}
+use mathlib.Core.Path.{_≡_, refl, sym, ap, _∙_}
+use mathlib.Core.Bool.{Bool, true, false, _&&_}
 use mathlib.Core.List.{List}
 use lib.ListN.{getD}
 use lib.Dec.{leb}
@@ -59,7 +59,7 @@ flagged : (w : List ℕ) (n : ℕ) → upTo w (prunedAt n 1) (16 * n) 131071 && 
 flagged w n = up-to-join w (prunedAt n 1) (16 * n) (createdAt n 1) (16 * n) (32 * n) 131071 (omega arith) (omega arith) ∙ ap (λ (a : ℕ). upTo w a (32 * n) 131071) (omega arith)
 
 -- the tests as the code makes them: five words, and three runs with the answers x, y and z
-pub work-scan : (w : List ℕ) (n : ℕ) {x y z : Bool} → x ≡ upTo w 5 (1 + 19 * n) 65535 → y ≡ upTo w (6 + 19 * n) (32 * n) 131071 →
+work-scan : (w : List ℕ) (n : ℕ) {x y z : Bool} → x ≡ upTo w 5 (1 + 19 * n) 65535 → y ≡ upTo w (6 + 19 * n) (32 * n) 131071 →
     z ≡ upTo w (6 + 51 * n) (16 * n) 2 →
     leb (at w 0) 2 && leb (at w 1) n && leb (at w 2) 2 && leb (at w 3) (n - 1) && leb (at w 4) (17 * n) && x && y && z ≡ workInRange w n
 unfolding workInRange rowsInRange
@@ -67,3 +67,16 @@ work-scan w n x y z =
     let c : upTo w (6 + 51 * n) (16 * n) 2 ≡ upTo w (colourAt n 1) (16 * n) 2 = ap (λ (a : ℕ). upTo w a (16 * n) 2) (omega arith) in
     rw (x ∙ sym (masks w n), y ∙ sym (flagged w n), z ∙ c, up-to-one w 0 2, up-to-one w 1 n, up-to-one w 2 2, up-to-one w 3 (n - 1), up-to-one w 4 (17 * n))
     (simp (and-assoc, and-true))
+
+-- the five words, before the runs
+abbrev firstInRange : List ℕ → ℕ → Bool
+firstInRange w n = leb (at w 0) 2 && leb (at w 1) n && leb (at w 2) 2 && leb (at w 3) (n - 1) && leb (at w 4) (17 * n)
+
+pub first-stops : (w : List ℕ) (n : ℕ) → firstInRange w n ≡ false → false ≡ workInRange w n
+first-stops w n h =
+    ap (λ (b : Bool). b && upTo w 5 (1 + 19 * n) 65535 && upTo w (6 + 19 * n) (32 * n) 131071 && upTo w (6 + 51 * n) (16 * n) 2) (sym h)
+    ∙ work-scan w n refl refl refl
+
+pub runs-go : (w : List ℕ) (n : ℕ) {x y z : Bool} → firstInRange w n ≡ true → x ≡ upTo w 5 (1 + 19 * n) 65535 → y ≡ upTo w (6 + 19 * n) (32 * n) 131071 →
+    z ≡ upTo w (6 + 51 * n) (16 * n) 2 → x && y && z ≡ workInRange w n
+runs-go w n {x} {y} {z} h ex ey ez = ap (λ (b : Bool). b && x && y && z) (sym h) ∙ work-scan w n ex ey ez

@@ -49,17 +49,15 @@ fn work_in_range(w: &[u32], n: usize) -> bool
     ensures { λ r. ⌜ r ≡ workInRange (now (w .entry)) n ⌝ }
 {
     let m = n as u32;
-    (w[0] <= 2)
-        & (w[1] <= m)
-        & (w[2] <= 2)
-        & (w[3] <= m - 1)
-        & (w[4] <= 17 * m)
-        & words_up_to(w, 5, 1 + 19 * n, 65535)
+    if !((w[0] <= 2) & (w[1] <= m) & (w[2] <= 2) & (w[3] <= m - 1) & (w[4] <= 17 * m)) {
+        return false;
+    }
+    words_up_to(w, 5, 1 + 19 * n, 65535)
         & words_up_to(w, 6 + 19 * n, 32 * n, 131071)
         & words_up_to(w, 6 + 51 * n, 16 * n, 2)
 }
 
-// Whether everything that refusal 1 looks at besides the lengths is in range: n pages, l records.
+// Whether everything that refusal 1 looks at besides the lengths is in range: n pages, l records. The first area that is not ends it.
 fn in_range(
     copies: &[u32],
     received: &[u32],
@@ -75,10 +73,16 @@ fn in_range(
     if !counts_in_range(counts, l) {
         return false;
     }
-    work_in_range(work, n)
-        & page_ops::sound::area_sound(received, n)
-        & page_ops::sound::area_sound(copies, n)
-        & record_ops::records_sound(log, n, counts[0] as usize)
+    if !work_in_range(work, n) {
+        return false;
+    }
+    if !page_ops::sound::area_sound(received, n) {
+        return false;
+    }
+    if !page_ops::sound::area_sound(copies, n) {
+        return false;
+    }
+    record_ops::records_sound(log, n, counts[0] as usize)
 }
 
 // Refusal 1, without its number. own: the lengths of the call's own buffers are right.
