@@ -12,6 +12,7 @@ use native.Mathlib.Omega.{arith}
 use borrow.Author.Tests.{eq-eqb, ne-eqb}
 use Rattle.words.specs.Tests.{if, any, sum, by-bool, if-t, if-f, sum-next}
 use Rattle.words.specs.Bits.{bit}
+use Rattle.records.specs.declared.Record.{Record}
 use Rattle.records.specs.Records.{recordAt, isBegin, isChange}
 use Rattle.records.specs.Changes.{changesIn, changesLeft, reserveOf}
 
@@ -26,11 +27,12 @@ sharesIn g (suc i) = let l = sharesIn g i in let r = recordAt g i in set l (r .t
 
 -- laws
 
-pub shares-next : (g : List ℕ) (i : ℕ) (l : List ℕ) (x : ℕ) → l ≡ sharesIn g i → x ≡ shareNext (recordAt g i .kind) (getD l (recordAt g i .txn) 0)
-    → set l (recordAt g i .txn) x ≡ sharesIn g (i + 1)
+pub shares-next : (g : List ℕ) (i : ℕ) (l : List ℕ) (x : ℕ) (r : Record) → r ≡ recordAt g i → l ≡ sharesIn g i → x ≡ shareNext (r .kind) (getD l (r .txn) 0)
+    → set l (r .txn) x ≡ sharesIn g (i + 1)
 unfolding sharesIn
-shares-next g i l x e f =
-    ap (set l (recordAt g i .txn)) f
+shares-next g i l x r read e f =
+    ap (set l (r .txn)) f
+    ∙ ap (λ (y : Record). set l (y .txn) (shareNext (y .kind) (getD l (y .txn) 0))) read
     ∙ ap (λ (m : List ℕ). set m (recordAt g i .txn) (shareNext (recordAt g i .kind) (getD m (recordAt g i .txn) 0))) e
     ∙ ap (sharesIn g) (sym (add-one i))
 

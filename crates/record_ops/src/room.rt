@@ -30,8 +30,9 @@ pub fn reserves(log: &[u32], c: usize) -> [u32; 16]
 {
     let mut shares = [0u32; 16];
     for i in 0..c {
-        let t = log[6 * i + 1] as usize;
-        let x = share_next(log[6 * i], shares[t]);
+        let r = log_reader::record_at(log, i);
+        let t = r.txn as usize;
+        let x = share_next(r.kind, shares[t]);
         shares[t] = x;
     }
     shares

@@ -1,9 +1,9 @@
 use Prim.Native.Nat.{_≤_, _-_}
 use mathlib.Core.Path.{_≡_, refl}
 use native.Mathlib.Omega.{arith}
-use borrow.Author.Needs.{needs}
-use Rattle.record_laws.specs.RecordLaws.{txn-below-at}
+use Rattle.record_laws.specs.RecordLaws.{record-facts}
 use Rattle.record_ops.specs.Reserves.{sharesIn, shares-next, shares-le}
+use borrow.Author.Needs.{needs}
 use Rattle.record_ops.proofs.room.reserves.Statement.{statement}
 use Rattle.record_ops.proofs.room.reserves.Tie as tie
 
@@ -17,44 +17,26 @@ loop-holds : tie.Need-loop-holds Inv-loop μ-loop
 unfolding sharesIn
 loop-holds c = (omega arith, refl)
 
-mul-t : tie.Need-mul-t Inv-loop μ-loop
-mul-t c = search needs
-
-add-t : tie.Need-add-t Inv-loop μ-loop
-add-t c = search needs
-
-mul-t-2 : tie.Need-mul-t-2 Inv-loop μ-loop
-mul-t-2 c = search needs
-
-shared-slice-read-t : tie.Need-shared-slice-read-t Inv-loop μ-loop
-shared-slice-read-t c = search needs
+record-at-requires : tie.Need-record-at-requires Inv-loop μ-loop
+record-at-requires c κs = search needs
 
 cast-t : tie.Need-cast-t Inv-loop μ-loop
-cast-t c = let h = txn-below-at _ _ _ _ (c .before .before .before .before .pre .2) (c .before .loop-test .taken) in omega arith
+cast-t c = let h = record-facts _ _ _ _ _ (c .before .record-at .ensures) (c .before .before .before .before .before .pre .2) (c .before .before .loop-test .taken) .txn-below in omega arith
 
 mul-share-next : tie.Need-mul-share-next Inv-loop μ-loop
-mul-share-next c = search needs
-
-mul-share-next-2 : tie.Need-mul-share-next-2 Inv-loop μ-loop
-mul-share-next-2 c = search needs
-
-shared-slice-read-share-next : tie.Need-shared-slice-read-share-next Inv-loop μ-loop
-shared-slice-read-share-next c = search needs
+mul-share-next c = let h = record-facts _ _ _ _ _ (c .before .record-at .ensures) (c .before .before .before .before .before .pre .2) (c .before .before .loop-test .taken) .txn-below in omega arith
 
 array-read-share-next : tie.Need-array-read-share-next Inv-loop μ-loop
-array-read-share-next c = txn-below-at _ _ _ _ (c .before .before .before .before .before .pre .2) (c .before .before .loop-test .taken)
-
-mul-share-next-3 : tie.Need-mul-share-next-3 Inv-loop μ-loop
-mul-share-next-3 c = let h = array-read-share-next c in omega arith
+array-read-share-next c = record-facts _ _ _ _ _ (c .before .record-at .ensures) (c .before .before .before .before .before .pre .2) (c .before .before .loop-test .taken) .txn-below
 
 share-next-requires : tie.Need-share-next-requires Inv-loop μ-loop
-share-next-requires c κs = let k = shares-le _ _ _ _ (c .before .before .before .loop .inv .1) (array-read-share-next c) in omega arith
-
-array-write-shares : tie.Need-array-write-shares Inv-loop μ-loop
-array-write-shares c = array-read-share-next (c .before)
+share-next-requires c κs = let k = shares-le _ _ _ _ (c .before .before .before .loop .inv .1) (record-facts _ _ _ _ _ (c .before .record-at .ensures) (c .before .before .before .before .before .pre .2) (c .before .before .loop-test .taken) .txn-below) in omega arith
 
 mul-shares : tie.Need-mul-shares Inv-loop μ-loop
-mul-shares c = let h = array-write-shares c in omega arith
+mul-shares c = let h = record-facts _ _ _ _ _ (c .before .before .record-at .ensures) (c .before .before .before .before .before .before .pre .2) (c .before .before .before .loop-test .taken) .txn-below in omega arith
+
+array-write-shares : tie.Need-array-write-shares Inv-loop μ-loop
+array-write-shares c = record-facts _ _ _ _ _ (c .before .before .record-at .ensures) (c .before .before .before .before .before .before .pre .2) (c .before .before .before .loop-test .taken) .txn-below
 
 add-i : tie.Need-add-i Inv-loop μ-loop
 add-i c = search needs
@@ -63,7 +45,7 @@ loop-less : tie.Need-loop-less Inv-loop μ-loop
 loop-less c = search needs
 
 loop-again : tie.Need-loop-again Inv-loop μ-loop
-loop-again c = (omega arith, shares-next _ _ _ _ (c .before .before .before .before .loop .inv .1) (c .share-next .ensures))
+loop-again c = (omega arith, shares-next _ _ _ _ _ (c .before .before .record-at .ensures) (c .before .before .before .before .loop .inv .1) (c .share-next .ensures))
 
 returns : tie.Need-returns Inv-loop μ-loop
 returns c = let e : c .before .loop .i ≡ c .before .before .before .args .c = omega arith in rw e at (c .before .loop .inv .1)
@@ -75,15 +57,9 @@ reserves-spec =
     Inv-loop
     μ-loop
     loop-holds
-    mul-t
-    add-t
-    mul-t-2
-    shared-slice-read-t
+    record-at-requires
     cast-t
     mul-share-next
-    mul-share-next-2
-    shared-slice-read-share-next
-    mul-share-next-3
     array-read-share-next
     share-next-requires
     mul-shares
