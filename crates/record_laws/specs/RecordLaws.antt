@@ -258,9 +258,6 @@ sound-record n r h = record {
 pub record-facts : (n : ℕ) (g : List ℕ) (c i : ℕ) (r : Record) → r ≡ recordAt g i → recordsSound n g c ≡ true → i < c → SoundRecord n r
 record-facts n g c i r e h l = sound-record n r (ap (recordSound n) e ∙ records-sound-at n g c i h l)
 
-pub txn-below-at : (n : ℕ) (g : List ℕ) (c i : ℕ) → recordsSound n g c ≡ true → i < c → getD g (6 * i + 1) 0 < 16
-txn-below-at n g c i h l = record-facts n g c i (recordAt g i) refl h l .txn-below
-
 -- a sound record that names a page names one of them, by its object unless it is a sweep
 named-kinds : {A : Type 0} (r : Record) → namesObject r ≡ true → (r .kind ≡ 2 → A) → (r .kind ≡ 3 → A) → (r .kind ≡ 6 → A) → A
 named-kinds r e a b d = elim (or-cases (eqb (r .kind) 2 || eqb (r .kind) 3) (eqb (r .kind) 6) e) [
