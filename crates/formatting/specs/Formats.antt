@@ -33,17 +33,6 @@ formattedArea a = occupy (zeros a) root
 abbrev pub formattedWork : List ℕ → List ℕ
 formattedWork w = set (zeros w) reopeningAt 2
 
--- a run of zeros, one word longer
-pub zeros-next : (a : List ℕ) (i : ℕ) (x : List ℕ) → x ≡ fill (λ k. 0) a 0 i → set x i 0 ≡ fill (λ k. 0) a 0 (i + 1)
-zeros-next a i x h = ap (λ (j : ℕ). set x j 0) (sym (zero-add i)) ∙ fill-turn (λ k. 0) a 0 i x h
-
--- a run of zeros over the whole list
-pub zeros-end : (a : List ℕ) (i : ℕ) (x : List ℕ) → x ≡ fill (λ k. 0) a 0 i → i ≡ length a → x ≡ zeros a
-zeros-end a i x h e = h ∙ ext-getD 0 (fill (λ k. 0) a 0 i) (zeros a) (length-fill (λ k. 0) a 0 i ∙ sym (length-replicate (length a) 0))
-    (λ j l. let m = length-fill (λ k. 0) a 0 i in
-    ap (λ (p : ℕ). getD (fill (λ k. 0) a 0 i) p 0) (sym (zero-add j)) ∙ fill-inside (λ k. 0) a 0 i j (omega arith) (omega arith)
-    ∙ sym (getD-replicate (length a) j 0 0 (omega arith)))
-
 pub area-formatted : (a : List ℕ) (n : ℕ) → length a ≡ 129 * n → formattedArea a ≡ formattedPages n
 unfolding formattedArea formattedPages
 area-formatted a n e = rw e

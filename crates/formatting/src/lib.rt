@@ -8,21 +8,12 @@ ghost use Rattle.formatting.specs.Formats.{zeros, formattedArea, formatt
 use areas::Answer;
 use areas::Refusal;
 
-// Every word becomes 0.
-fn clear(a: &mut [u32])
-    ensures { λ _. ⌜ now (a .exit) ≡ zeros (now (a .entry)) ⌝ }
-{
-    for i in 0..a.len() {
-        a[i] = 0;
-    }
-}
-
 // A page area becomes the root alone.
 fn format_pages(a: &mut [u32])
     requires { ⌜ 129 ≤ length (now a) ⌝ }
     ensures { λ _. ⌜ now (a .exit) ≡ formattedArea (now (a .entry)) ⌝ }
 {
-    clear(a);
+    page_ops::areas::clear(a);
     page_ops::change::occupy(a, 1);
 }
 
@@ -31,7 +22,7 @@ fn format_tables(work: &mut [u32])
     requires { ⌜ 6 ≤ length (now work) ⌝ }
     ensures { λ _. ⌜ now (work .exit) ≡ formattedWork (now (work .entry)) ⌝ }
 {
-    clear(work);
+    page_ops::areas::clear(work);
     work[0] = 2;
 }
 
@@ -59,8 +50,8 @@ pub fn format(
     format_pages(stored);
     format_pages(copies);
     format_pages(received);
-    clear(log);
-    clear(counts);
+    page_ops::areas::clear(log);
+    page_ops::areas::clear(counts);
     format_tables(work);
     Answer::Done(0)
 }

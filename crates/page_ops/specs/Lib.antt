@@ -4,3 +4,4 @@ pub mod SoundLaws
 pub mod TableLaws
 pub mod Agreement
 pub mod RoundTrip
+pub mod Filling

@@ -3,10 +3,8 @@ use Prim.Native.Nat.{ℕ, zero, suc, _+_, _*_, _-_, _/_, _<_, _≤_}
 use mathlib.Core.Path.{_≡_, refl, sym, ap, _∙_}
 use mathlib.Core.Bool.{Bool, true, false}
 use mathlib.Core.List.{List}
-use lib.ListN.{length, getD, set, replicate, length-replicate, getD-replicate}
+use lib.ListN.{length}
 use lib.Dec.{eqb}
-use lib.Seq.{ext-getD, getD-set-same, getD-set-other}
-use native.Mathlib.Decide.{ℕ-discrete}
 use native.Mathlib.Omega.{arith}
 use Rattle.words.specs.Tests.{if, by-bool}
 use Rattle.words.specs.Bits.{bit, withoutBit, bit-none}
@@ -18,23 +16,6 @@ use Rattle.records.specs.Order.{openIn}
 use Rattle.records.specs.Recovery.{redone, undoneIn, recovered}
 use Rattle.record_laws.specs.RecordLaws.{redone-next, records-sound-at}
 use Rattle.record_laws.specs.EffectLaws.{length-redone}
-
--- the first i words of b are those of f: one more of them written
-abbrev pub FilledTo : List ℕ → (ℕ → ℕ) → ℕ → Type 0
-FilledTo b f i = (k : ℕ) → k < i → getD b k 0 ≡ f k
-
-pub filled-next : (b : List ℕ) (f : ℕ → ℕ) (n i : ℕ) → length b ≡ n → i < n → FilledTo b f i → FilledTo (set b i (f i)) f (i + 1)
-filled-next b f n i e l h k m = elim (ℕ-discrete k i) [
-  | yes q ↦ rw q (getD-set-same b i (f i) 0 (omega arith))
-  | no q ↦ getD-set-other b i k (f i) 0 q ∙ h k (omega arith)
-]
-
--- a list filled to its end
-pub filled-same : (b a : List ℕ) (i : ℕ) → length b ≡ length a → length a ≤ i → FilledTo b (λ k. getD a k 0) i → b ≡ a
-filled-same b a i e u h = ext-getD 0 b a e (λ k l. h k (omega arith))
-
-pub filled-zero : (b : List ℕ) (n i : ℕ) → length b ≡ n → n ≤ i → FilledTo b (λ k. 0) i → b ≡ replicate n 0
-filled-zero b n i e u h = ext-getD 0 b (replicate n 0) (e ∙ sym (length-replicate n 0)) (λ k l. h k (omega arith) ∙ sym (getD-replicate n k 0 0 (omega arith)))
 
 if-same : (b : Bool) (x : ℕ) → if b x x ≡ x
 if-same true x = refl

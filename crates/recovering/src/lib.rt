@@ -5,7 +5,6 @@ mod reading;
 
 use areas::Refusal;
 pub use check::find_open;
-pub use making::copy_area;
 pub use making::recover;
 pub use making::restart;
 use records::Record;

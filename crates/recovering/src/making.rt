@@ -11,25 +11,6 @@ ghost use Rattle.recovering.specs.Rebuilding.{leaving, takenBack};
 use page_ops::bits;
 use records::Record;
 
-// One area becomes another.
-pub fn copy_area(from: &[u32], to: &mut [u32])
-    requires { ⌜ length (now to) ≡ length (now from) ⌝ }
-    ensures { λ _. ⌜ now (to .exit) ≡ now (from .entry) ⌝ }
-{
-    for i in 0..from.len() {
-        to[i] = from[i];
-    }
-}
-
-// Every word becomes 0.
-fn clear(a: &mut [u32])
-    ensures { λ _. ⌜ now (a .exit) ≡ replicate (length (now (a .entry))) 0 ⌝ }
-{
-    for i in 0..a.len() {
-        a[i] = 0;
-    }
-}
-
 // The first c records take effect, in order.
 fn redo(a: &mut [u32], log: &[u32], c: usize)
     requires { ⌜ (6 * c ≤ length (now log)) × (recordsSound (length (now a) / 129) (now log) c ≡ true) ⌝ }
@@ -83,7 +64,7 @@ pub fn recover(stored: &[u32], a: &mut [u32], log: &[u32], n: usize, c: usize, m
     requires { ⌜ (length (now a) ≡ length (now stored)) × (length (now stored) ≡ 129 * n) × (6 * c ≤ length (now log)) × (recordsSound n (now log) c ≡ true) × (m ≡ openIn (now log) c) ⌝ }
     ensures { λ b. ⌜ (b ≡ all (freeZero (recovered (now (stored .entry)) (now (log .entry)) c)) n) × (now (a .exit) ≡ recovered (now (stored .entry)) (now (log .entry)) c) ⌝ }
 {
-    copy_area(stored, a);
+    page_ops::areas::copy_area(stored, a);
     redo(a, log, c);
     undo(a, log, c, m);
     page_ops::sound::pages_free_zero(a, n)
@@ -95,6 +76,6 @@ pub fn restart(counts: &mut [u32], work: &mut [u32])
     ensures { λ _. ⌜ (now (counts .exit) ≡ set (now (counts .entry)) 0 (getD (now (counts .entry)) 1 0)) × (now (work .exit) ≡ set (replicate (length (now (work .entry))) 0) 0 1) ⌝ }
 {
     counts[0] = counts[1];
-    clear(work);
+    page_ops::areas::clear(work);
     work[0] = 1;
 }

@@ -1,16 +1,19 @@
 // Reopening after a cut: what the stored pages and the stable records give, and the steps that make it stable.
 ghost use mathlib.Core.Path.{_≡_};
 ghost use mathlib.Core.Bool.{true};
-ghost use lib.ListN.{length};
+ghost use Prim.Native.Nat.{_/_};
+ghost use lib.ListN.{length, getD};
 ghost use Rattle.areas.specs.Areas.{areas, out};
 ghost use Rattle.areas.specs.Ranges.{fit};
+ghost use Rattle.recovering.specs.Reading.{foundOf};
+ghost use Rattle.recovering.specs.declared.Scan.the-variants.{Open};
 ghost use Rattle.calls.specs.Reopening.{callReopen, callRestep};
 use areas::Answer;
 use areas::Ready;
 use areas::Refusal;
 use recovering::Scan;
 
-// Reopens areas whose lengths fit. The pages are made in room, since nothing lent may change before all of refusal 14 is known.
+// Reopens, if the pages that the log leaves are sound. They are made in room, since nothing lent may change before that is known.
 fn reopen_in(
     stored: &[u32],
     copies: &mut [u32],
@@ -19,30 +22,51 @@ fn reopen_in(
     counts: &mut [u32],
     work: &mut [u32],
     room: &mut [u32],
+    m: u32,
 ) -> Answer
-    requires { ⌜ (fit (areas (now stored) (now copies) (now received) (now log) (now counts) (now work)) ≡ true) × (length (now room) ≡ length (now stored)) ⌝ }
+    requires { ⌜ (fit (areas (now stored) (now copies) (now received) (now log) (now counts) (now work)) ≡ true) × (foundOf (length (now stored) / 129) (length (now log) / 6) (now stored) (now log) (getD (now counts) 1 0) ≡ Open m) × (length (now room) ≡ length (now stored)) ⌝ }
     ensures { λ r. ⌜ out r (now (stored .exit)) (now (copies .exit)) (now (received .exit)) (now (log .exit)) (now (counts .exit)) (now (work .exit)) ≡ callReopen (areas (now (stored .entry)) (now (copies .entry)) (now (received .entry)) (now (log .entry)) (now (counts .entry)) (now (work .entry))) ⌝ }
 {
-    let n = stored.len() / 129;
-    let stable = counts[1] as usize;
-    let s = recovering::find_open(stored, log, n, log.len() / 6, stable);
-    match s {
-        Scan::Refuse(x) => Answer::Refused(x),
-        Scan::Open(m) => {
-            if !recovering::recover(stored, room, log, n, stable, m) {
-                return Answer::Refused(Refusal::Unsound);
-            }
-            recovering::copy_area(room, received);
-            recovering::copy_area(room, copies);
-            recovering::restart(counts, work);
-            Answer::Done(0)
-        }
+    let c = counts[1] as usize;
+    if !recovering::recover(stored, room, log, stored.len() / 129, c, m) {
+        return Answer::Refused(Refusal::Unsound);
     }
+    page_ops::areas::copy_area(room, received);
+    page_ops::areas::copy_area(room, copies);
+    recovering::restart(counts, work);
+    Answer::Done(0)
+}
+
+// The same, with room of its own: for 16, 64 or 256 pages, since to clear more than that takes longer than to reopen a small store.
+fn reopen_found(
+    stored: &[u32],
+    copies: &mut [u32],
+    received: &mut [u32],
+    log: &[u32],
+    counts: &mut [u32],
+    work: &mut [u32],
+    m: u32,
+) -> Answer
+    requires { ⌜ (fit (areas (now stored) (now copies) (now received) (now log) (now counts) (now work)) ≡ true) × (foundOf (length (now stored) / 129) (length (now log) / 6) (now stored) (now log) (getD (now counts) 1 0) ≡ Open m) ⌝ }
+    ensures { λ r. ⌜ out r (now (stored .exit)) (now (copies .exit)) (now (received .exit)) (now (log .exit)) (now (counts .exit)) (now (work .exit)) ≡ callReopen (areas (now (stored .entry)) (now (copies .entry)) (now (received .entry)) (now (log .entry)) (now (counts .entry)) (now (work .entry))) ⌝ }
+{
+    if stored.len() <= 2064 {
+        let mut small = [0u32; 2064];
+        let room = &mut small[..stored.len()];
+        return reopen_in(stored, copies, received, log, counts, work, room, m);
+    }
+    if stored.len() <= 8256 {
+        let mut middle = [0u32; 8256];
+        let room = &mut middle[..stored.len()];
+        return reopen_in(stored, copies, received, log, counts, work, room, m);
+    }
+    let mut large = [0u32; 33024];
+    let room = &mut large[..stored.len()];
+    reopen_in(stored, copies, received, log, counts, work, room, m)
 }
 
 // Reopens: received pages and copies become what the stored pages and the stable records give. Looks at the lengths, the stored pages,
-// the stable count and its records only, and may be called at any time. Room for 16 pages where they do: 256 take longer to clear than a
-// small store to reopen.
+// the stable count and its records only, and may be called at any time.
 pub fn reopen(
     stored: &[u32],
     copies: &mut [u32],
@@ -63,14 +87,12 @@ pub fn reopen(
     ) {
         return Answer::Refused(Refusal::Malformed);
     }
-    if stored.len() <= 2064 {
-        let mut small = [0u32; 2064];
-        let room = &mut small[..stored.len()];
-        return reopen_in(stored, copies, received, log, counts, work, room);
+    let stable = counts[1] as usize;
+    let s = recovering::find_open(stored, log, stored.len() / 129, log.len() / 6, stable);
+    match s {
+        Scan::Refuse(x) => Answer::Refused(x),
+        Scan::Open(m) => reopen_found(stored, copies, received, log, counts, work, m),
     }
-    let mut large = [0u32; 33024];
-    let room = &mut large[..stored.len()];
-    reopen_in(stored, copies, received, log, counts, work, room)
 }
 
 // One reopening step: stores the next page, or, after the last, empties the log and ends the reopening.

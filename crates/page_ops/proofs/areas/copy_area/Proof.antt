@@ -3,9 +3,9 @@ use native.Mathlib.Omega.{arith}
 use mathlib.Core.Path.{_≡_, refl}
 use Prim.Native.Nat.{_≤_, _-_}
 use lib.ListN.{length, getD}
-use Rattle.recovering.specs.Rebuilding.{FilledTo, filled-next, filled-same}
-use Rattle.recovering.proofs.making.copy_area.Statement.{statement}
-use Rattle.recovering.proofs.making.copy_area.Tie as tie
+use Rattle.page_ops.specs.Filling.{FilledTo, filled-next, filled-same}
+use Rattle.page_ops.proofs.areas.copy_area.Statement.{statement}
+use Rattle.page_ops.proofs.areas.copy_area.Tie as tie
 
 abbrev Inv-loop : tie.InvT-loop
 Inv-loop from to₀ i₀ i-end to i = (i ≤ length from) × (i-end ≡ length from) × (length to ≡ length from) × FilledTo to (λ k. getD from k 0) i
