@@ -10,7 +10,7 @@ use native.Mathlib.Nat.{add-zero}
 use native.Mathlib.Omega.{arith}
 use Rattle.words.specs.Tests.{all, all-both, and-true, and-false, and-assoc, and-swap, and-cong, all-next}
 use Rattle.pages.specs.Geometry.{isRefAt}
-use Rattle.pages.specs.Objects.{taken, slotWord}
+use Rattle.pages.specs.Objects.{taken}
 use Rattle.pages.specs.Soundness.{mapSound, refSound, refsSound, slotZero, freeZero, pageSound}
 use Rattle.page_laws.specs.BitLaws.{or-none}
 
@@ -44,7 +44,6 @@ pub zero-eight : (a : List ℕ) (p s : ℕ) → eqb (orOfEight a (129 * p + 1 + 
 unfolding all slotZero
 zero-eight a p s = simp (add-zero, or-none)
 
--- a word is above top by all of its bits or by none
 and-comm : (a b : Bool) → a && b ≡ b && a
 and-comm true b = sym (and-true b)
 and-comm false b = sym (and-false b)

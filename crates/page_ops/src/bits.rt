@@ -40,5 +40,5 @@ pub fn slots_set(m: u32) -> u32
 pub fn above(x: u32, top: u32) -> u32
     ensures { λ r. ⌜ eqb r 0 ≡ leb x top ⌝ }
 {
-    (top < x) as u32 * 0xffff_ffff
+    if top < x { 0xffff_ffff } else { 0 }
 }

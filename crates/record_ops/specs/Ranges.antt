@@ -10,7 +10,7 @@ use lib.Bits.{bitAnd, bitOr, and-zero-r, and-mask, and-high, or-add-and, and-le-
 use mir.Val.{boolByte}
 use native.Mathlib.Omega.{arith}
 use borrow.Author.Tests.{ltb-true, ltb-false, leb-true, leb-false, eqb-true, eqb-false, lt-ltb, le-ltb, le-leb, lt-leb, eq-eqb, ne-eqb}
-use Rattle.words.specs.Tests.{if, all, all-stop, by-bool, clash, if-t, if-f, and-f, and-false, and-true, and-assoc, and-swap, and-cong, and-split, or-l}
+use Rattle.words.specs.Tests.{if, all, all-stop, by-bool, and-false, and-true, and-assoc, and-swap, and-cong, and-split}
 use Rattle.words.specs.Bits.{bit, bit-low}
 use Rattle.page_laws.specs.BitLaws.{or-none, or-le-r}
 use Rattle.records.specs.declared.Record.{Record}

@@ -1,23 +1,14 @@
--- A test taken as a number is 0 or 1. Assumes nothing.
-use native.Mathlib.Omega.{arith}
-use lib.Dec.{ltb}
-use borrow.Author.Needs.{needs}
-use borrow.Author.Tests.{ltb-true, ltb-false, le-leb, lt-leb}
+-- The test of the branch is the test of the contract. Assumes nothing.
 use mathlib.Core.Path.{sym}
-use Rattle.words.specs.Tests.{by-bool}
+use borrow.Author.Tests.{le-leb, lt-leb}
 use Rattle.page_ops.proofs.bits.above.Statement.{statement}
 use Rattle.page_ops.proofs.bits.above.Tie as tie
 
-cast-result : tie.Need-cast-result
-cast-result c = search needs
-
-mul-result : tie.Need-mul-result
-mul-result c = by-bool (ltb (c .args .top) (c .args .x)) (λ e. rw e (omega arith)) (λ e. rw e (omega arith))
-
 returns : tie.Need-returns
-returns c = let x = c .args .x in let top = c .args .top in by-bool (ltb top x)
-    (λ e. rw e (sym (lt-leb x top (ltb-true top x e))))
-    (λ e. rw e (sym (le-leb x top (ltb-false top x e))))
+returns c = let s = c .before .args in sym (lt-leb (s .x) (s .top) (c .if1 .taken))
+
+returns-2 : tie.Need-returns-2
+returns-2 c = let s = c .before .args in sym (le-leb (s .x) (s .top) (c .if1 .left))
 
 pub above-spec : {M : Type 1} → statement M
-above-spec = tie.close (tie.spec cast-result mul-result returns)
+above-spec = tie.close (tie.spec returns returns-2)
