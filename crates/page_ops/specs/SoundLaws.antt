@@ -1,23 +1,19 @@
 -- The soundness of a page slot by slot, as the code finds it. Assumes nothing.
 use Prim.Native.Nat.{ℕ, zero, suc, _+_, _*_, _%_, _^_, _<_}
 use mathlib.Core.Path.{_≡_, refl, sym, ap, _∙_}
-use mathlib.Core.Bool.{Bool, true, false, _&&_, _||_}
+use mathlib.Core.Bool.{Bool, true, false, not, _&&_, _||_}
 use mathlib.Core.List.{List, [], _∷_}
 use lib.Dec.{eqb, leb}
 use lib.Bits.{bitAnd, bitOr, and-zero-r, and-mask, or-lt}
 use lib.ListN.{getD}
 use native.Mathlib.Nat.{add-zero}
 use native.Mathlib.Omega.{arith}
-use Rattle.words.specs.Tests.{all, all-both, and-true, and-false, and-assoc, and-swap, and-cong, all-next}
+use borrow.Author.Tests.{le-leb}
+use Rattle.words.specs.Tests.{all, all-both, all-same, all-intro, and-t, or-r, and-true, and-false, and-assoc, and-swap, and-cong, all-next}
 use Rattle.pages.specs.Geometry.{isRefAt}
-use Rattle.pages.specs.Objects.{taken}
+use Rattle.pages.specs.Objects.{taken, slotWord}
 use Rattle.pages.specs.Soundness.{mapSound, refSound, refsSound, slotZero, freeZero, pageSound}
 use Rattle.page_laws.specs.BitLaws.{or-none}
-
--- the eight words from b together
-abbrev pub orOfEight : List ℕ → ℕ → ℕ
-orOfEight a b = bitOr (bitOr (bitOr (bitOr (bitOr (bitOr (bitOr
-    (getD a b 0) (getD a (b + 1) 0)) (getD a (b + 2) 0)) (getD a (b + 3) 0)) (getD a (b + 4) 0)) (getD a (b + 5) 0)) (getD a (b + 6) 0)) (getD a (b + 7) 0)
 
 -- all bits for a free slot, none for one that is occupied
 abbrev pub freeBits : Bool → ℕ
@@ -32,17 +28,15 @@ columnSound a i j t top = leb (getD a i 0) top && (t || (eqb (getD a i 0) 0 && e
 unfoldable pub noneOfFour : ℕ → ℕ → ℕ → ℕ → Bool
 noneOfFour f0 f1 f2 f3 = eqb f0 0 && eqb f1 0 && eqb f2 0 && eqb f3 0
 
--- the tests of slot s of page p
-unfoldable pub takenOrZero : List ℕ → ℕ → ℕ → Bool
+-- the tests of slot s of page p, with top for the largest reference
+abbrev refUpTo : List ℕ → ℕ → ℕ → ℕ → ℕ → Bool
+refUpTo a top p s f = not (isRefAt a p s f) || leb (slotWord a p s f) top
+
+abbrev takenOrZero : List ℕ → ℕ → ℕ → Bool
 takenOrZero a p s = taken a p s || slotZero a p s
 
 unfoldable pub slotSound : List ℕ → ℕ → ℕ → ℕ → Bool
-slotSound a n p s = all (refSound a n p s) 8 && takenOrZero a p s
-
--- eight words are 0 where all of them together are
-pub zero-eight : (a : List ℕ) (p s : ℕ) → eqb (orOfEight a (129 * p + 1 + 8 * s)) 0 ≡ slotZero a p s
-unfolding all slotZero
-zero-eight a p s = simp (add-zero, or-none)
+slotSound a top p s = all (refUpTo a top p s) 8 && takenOrZero a p s
 
 and-comm : (a b : Bool) → a && b ≡ b && a
 and-comm true b = sym (and-true b)
@@ -96,9 +90,9 @@ columns-by t u0 u1 u2 u3 n0 n1 n2 n3 n4 n5 n6 n7 =
 unfoldable pub columns : List ℕ → ℕ → Bool → ℕ → Bool
 columns a b t top = columnSound a b (b + 4) t top && columnSound a (b + 1) (b + 5) t top && columnSound a (b + 2) (b + 6) t top && columnSound a (b + 3) (b + 7) t top
 
-pub columns-slot : (a : List ℕ) (n p s : ℕ) → columns a (129 * p + 1 + 8 * s) (taken a p s) (16 * n) ≡ slotSound a n p s
-unfolding all isRefAt slotZero takenOrZero slotSound columns
-columns-slot a n p s =
+pub columns-slot : (a : List ℕ) (top p s : ℕ) → columns a (129 * p + 1 + 8 * s) (taken a p s) top ≡ slotSound a top p s
+unfolding all isRefAt slotZero slotSound columns
+columns-slot a top p s =
     columns-by (taken a p s) (up b) (up (b + 1)) (up (b + 2)) (up (b + 3)) (no b) (no (b + 1)) (no (b + 2)) (no (b + 3)) (no (b + 4)) (no (b + 5)) (no (b + 6)) (no (b + 7))
     ∙ and-cong refs (ap (λ (q : Bool). taken a p s || q) zeros)
   where
@@ -106,12 +100,12 @@ columns-slot a n p s =
     b = 129 * p + 1 + 8 * s
 
     up : ℕ → Bool
-    up i = leb (getD a i 0) (16 * n)
+    up i = leb (getD a i 0) top
 
     no : ℕ → Bool
     no i = eqb (getD a i 0) 0
 
-    refs : up b && up (b + 1) && up (b + 2) && up (b + 3) ≡ all (refSound a n p s) 8
+    refs : up b && up (b + 1) && up (b + 2) && up (b + 3) ≡ all (refUpTo a top p s) 8
     refs = simp (add-zero, and-true)
 
     zeros : no b && no (b + 1) && no (b + 2) && no (b + 3) && no (b + 4) && no (b + 5) && no (b + 6) && no (b + 7) ≡ slotZero a p s
@@ -122,27 +116,32 @@ pub slot-none : (f : ℕ → Bool) → noneOfFour 0 0 0 0 ≡ all f 0
 unfolding all noneOfFour
 slot-none f = refl
 
-pub slot-next : (a : List ℕ) (n p k f0 f1 f2 f3 g0 g1 g2 g3 : ℕ) → noneOfFour f0 f1 f2 f3 ≡ all (slotSound a n p) k
+pub slot-next : (a : List ℕ) (top p k f0 f1 f2 f3 g0 g1 g2 g3 : ℕ) → noneOfFour f0 f1 f2 f3 ≡ all (slotSound a top p) k
     → (let b = 129 * p + 1 + 8 * k in let t = taken a p k in
-    (eqb g0 0 ≡ eqb f0 0 && columnSound a b (b + 4) t (16 * n)) × (eqb g1 0 ≡ eqb f1 0 && columnSound a (b + 1) (b + 5) t (16 * n))
-    × (eqb g2 0 ≡ eqb f2 0 && columnSound a (b + 2) (b + 6) t (16 * n)) × (eqb g3 0 ≡ eqb f3 0 && columnSound a (b + 3) (b + 7) t (16 * n)))
-    → noneOfFour g0 g1 g2 g3 ≡ all (slotSound a n p) (k + 1)
+    (eqb g0 0 ≡ eqb f0 0 && columnSound a b (b + 4) t top) × (eqb g1 0 ≡ eqb f1 0 && columnSound a (b + 1) (b + 5) t top)
+    × (eqb g2 0 ≡ eqb f2 0 && columnSound a (b + 2) (b + 6) t top) × (eqb g3 0 ≡ eqb f3 0 && columnSound a (b + 3) (b + 7) t top))
+    → noneOfFour g0 g1 g2 g3 ≡ all (slotSound a top p) (k + 1)
 unfolding columns noneOfFour
-slot-next a n p k f0 f1 f2 f3 g0 g1 g2 g3 h e =
+slot-next a top p k f0 f1 f2 f3 g0 g1 g2 g3 h e =
     and-cong (and-cong (and-cong (e .0) (e .1)) (e .2)) (e .3)
     ∙ four-pairs (eqb f0 0) (eqb f1 0) (eqb f2 0) (eqb f3 0) _ _ _ _
-    ∙ and-cong h (columns-slot a n p k)
-    ∙ all-next (slotSound a n p) k
+    ∙ and-cong h (columns-slot a top p k)
+    ∙ all-next (slotSound a top p) k
 
-pub faults-end : (a : List ℕ) (n p k f0 f1 f2 f3 : ℕ) → noneOfFour f0 f1 f2 f3 ≡ all (slotSound a n p) k → k ≡ 16
-    → eqb (bitOr (bitOr (bitOr f0 f1) f2) f3) 0 ≡ all (slotSound a n p) 16
+pub faults-end : (a : List ℕ) (top p k f0 f1 f2 f3 : ℕ) → noneOfFour f0 f1 f2 f3 ≡ all (slotSound a top p) k → k ≡ 16
+    → eqb (bitOr (bitOr (bitOr f0 f1) f2) f3) 0 ≡ all (slotSound a top p) 16
 unfolding noneOfFour
-faults-end a n p k f0 f1 f2 f3 h e = simp or-none (rw (← e) h)
+faults-end a top p k f0 f1 f2 f3 h e = simp or-none (rw (← e) h)
 
--- the map and the slots
-pub page-slots : (a : List ℕ) (n p : ℕ) (t : Bool) → t ≡ all (slotSound a n p) 16 → (mapSound a p && t) ≡ pageSound a n p
-unfolding takenOrZero slotSound refsSound freeZero pageSound
+-- the map and the slots, and the slots without their references: no word is above the largest
+pub page-slots : (a : List ℕ) (n p : ℕ) (t : Bool) → t ≡ all (slotSound a (16 * n) p) 16 → (mapSound a p && t) ≡ pageSound a n p
+unfolding slotSound refsSound freeZero pageSound
 page-slots a n p t e = rw (e, all-both (λ s. all (refSound a n p s) 8) (takenOrZero a p) 16) (sym (and-assoc (mapSound a p) (refsSound a n p) (freeZero a p)))
+
+pub slots-free : (a : List ℕ) (p : ℕ) → ((i : ℕ) → getD a i 0 < 2 ^ 32) → all (slotSound a 4294967295 p) 16 ≡ freeZero a p
+unfolding slotSound freeZero
+slots-free a p h = all-same _ _ 16 (λ s l. and-t _ (takenOrZero a p s) (all-intro _ 8 (λ f k. or-r (not (isRefAt a p s f)) _
+    (let w = h (129 * p + 1 + 8 * s + f) in le-leb (slotWord a p s f) 4294967295 (omega arith)))))
 
 -- the bits of free in a row of four words for a free slot, and one for an occupied slot
 abbrev pub freeRows : List ℕ
@@ -156,10 +155,3 @@ pub free-row : (d : ℕ) → d < 2 → FreeRow d
 free-row zero h = (refl, refl, refl, refl)
 free-row (suc zero) h = (refl, refl, refl, refl)
 free-row (suc (suc d)) h = absurd (omega arith)
-
-pub slots-free : (a : List ℕ) (p : ℕ) → all (takenOrZero a p) 16 ≡ freeZero a p
-unfolding takenOrZero freeZero
-slots-free a p = refl
-
-pub either-cong : {a b p q : Bool} → a ≡ p → b ≡ q → (a || b) ≡ (p || q)
-either-cong e f = cc

@@ -5,24 +5,8 @@ ghost use lib.ListN.{length};
 ghost use lib.Dec.{eqb};
 ghost use Rattle.words.specs.Tests.{all};
 ghost use Rattle.pages.specs.Soundness.{freeZero, pageSound, areaSound};
-ghost use Rattle.page_ops.specs.SoundLaws.{orOfEight, takenOrZero, freeBits, columnSound, slotSound};
+ghost use Rattle.page_ops.specs.SoundLaws.{freeBits, columnSound, slotSound};
 use super::bits;
-
-// All eight words from b together.
-fn or_of_eight(a: &[u32], b: usize) -> u32
-    requires { ⌜ b + 8 ≤ length (now a) ⌝ }
-    ensures { λ r. ⌜ r ≡ orOfEight (now (a .entry)) b ⌝ }
-{
-    a[b] | a[b + 1] | a[b + 2] | a[b + 3] | a[b + 4] | a[b + 5] | a[b + 6] | a[b + 7]
-}
-
-// Whether slot s of page p is occupied or zero.
-fn taken_or_zero(a: &[u32], p: usize, s: usize) -> bool
-    requires { ⌜ (s < 16) × (129 * p + 129 ≤ length (now a)) ⌝ }
-    ensures { λ r. ⌜ r ≡ takenOrZero (now (a .entry)) p s ⌝ }
-{
-    words::has_bit(a[129 * p], s) | (or_of_eight(a, 129 * p + 1 + 8 * s) == 0)
-}
 
 // The faults found before, and those of the reference at i and the data word at j of one slot: the reference is above top, or one
 // of the two is not 0 where free has all bits. (It has none for an occupied slot.)
@@ -33,14 +17,13 @@ fn faults(before: u32, a: &[u32], i: usize, j: usize, free: u32, top: u32) -> u3
     before | ((a[i] | a[j]) & free) | bits::above(a[i], top)
 }
 
-// The faults of the slots of page p of n, 0 where there are none. Four words at a time: a column for each reference of a slot and the
-// data word four after it, and no branch for a slot.
-fn slot_faults(a: &[u32], n: usize, p: usize) -> u32
-    requires { ⌜ (n ≤ 256) × (129 * p + 129 ≤ length (now a)) ⌝ }
-    ensures { λ r. ⌜ eqb r 0 ≡ all (slotSound (now (a .entry)) n p) 16 ⌝ }
+// The faults of the slots of page p, 0 where there are none: a reference above top, or a free slot that is not zero. A column for each
+// reference and the data word four after it, so that it goes four words at a time, with no branch for a slot.
+fn slot_faults(a: &[u32], p: usize, top: u32) -> u32
+    requires { ⌜ 129 * p + 129 ≤ length (now a) ⌝ }
+    ensures { λ r. ⌜ eqb r 0 ≡ all (slotSound (now (a .entry)) top p) 16 ⌝ }
 {
     let map = a[129 * p];
-    let top = 16 * (n as u32);
     let ones = 0xffff_ffffu32;
     let free = [ones, ones, ones, ones, 0, 0, 0, 0];
     let mut f0: u32 = 0;
@@ -63,7 +46,7 @@ pub fn page_sound(a: &[u32], n: usize, p: usize) -> bool
     requires { ⌜ (n ≤ 256) × (129 * p + 129 ≤ length (now a)) ⌝ }
     ensures { λ r. ⌜ r ≡ pageSound (now (a .entry)) n p ⌝ }
 {
-    (a[129 * p] <= 65535) & (slot_faults(a, n, p) == 0)
+    (a[129 * p] <= 65535) & (slot_faults(a, p, 16 * (n as u32)) == 0)
 }
 
 // Whether a page area of n pages is sound.
@@ -79,16 +62,12 @@ pub fn area_sound(a: &[u32], n: usize) -> bool
     words::has_bit(a[0], 0)
 }
 
-// Whether the free slots of page p are zero.
+// Whether the free slots of page p are zero: no reference is above the largest word.
 pub fn free_zero(a: &[u32], p: usize) -> bool
     requires { ⌜ 129 * p + 129 ≤ length (now a) ⌝ }
     ensures { λ r. ⌜ r ≡ freeZero (now (a .entry)) p ⌝ }
 {
-    let mut ok = true;
-    for s in 0..16usize {
-        ok = ok & taken_or_zero(a, p, s);
-    }
-    ok
+    slot_faults(a, p, 0xffff_ffff) == 0
 }
 
 // The same of every page.

@@ -13,6 +13,12 @@ mul-result-2 c = search needs
 shared-slice-read-result : tie.Need-shared-slice-read-result
 shared-slice-read-result c = search needs
 
+cast-slot-faults : tie.Need-cast-slot-faults
+cast-slot-faults c = search needs
+
+mul-slot-faults : tie.Need-mul-slot-faults
+mul-slot-faults c = search needs
+
 slot-faults-requires : tie.Need-slot-faults-requires
 slot-faults-requires c κs = search needs
 
@@ -22,4 +28,11 @@ returns c = page-slots _ _ _ _ (c .slot-faults .ensures)
 pub page-sound-spec : {M : Type 1} → statement M
 page-sound-spec =
     tie.close
-    (tie.spec mul-result mul-result-2 shared-slice-read-result slot-faults-requires returns)
+    (tie.spec
+    mul-result
+    mul-result-2
+    shared-slice-read-result
+    cast-slot-faults
+    mul-slot-faults
+    slot-faults-requires
+    returns)

@@ -11,10 +11,10 @@ use Rattle.page_ops.proofs.sound.slot_faults.Statement.{statement}
 use Rattle.page_ops.proofs.sound.slot_faults.Tie as tie
 
 abbrev Inv-loop : tie.InvT-loop
-Inv-loop a n p map top ones free f0₀ f1₀ f2₀ f3₀ s₀ f0 f1 f2 f3 s = (s ≤ 16) × (noneOfFour f0 f1 f2 f3 ≡ all (slotSound a n p) s)
+Inv-loop a p top map ones free f0₀ f1₀ f2₀ f3₀ s₀ f0 f1 f2 f3 s = (s ≤ 16) × (noneOfFour f0 f1 f2 f3 ≡ all (slotSound a top p) s)
 
 abbrev μ-loop : tie.MeasureT-loop
-μ-loop a n p map top ones free f0₀ f1₀ f2₀ f3₀ s₀ f0 f1 f2 f3 s = 16 - s
+μ-loop a p top map ones free f0₀ f1₀ f2₀ f3₀ s₀ f0 f1 f2 f3 s = 16 - s
 
 mul-map : tie.Need-mul-map Inv-loop μ-loop
 mul-map c = search needs
@@ -24,12 +24,6 @@ mul-map-2 c = search needs
 
 shared-slice-read-map : tie.Need-shared-slice-read-map Inv-loop μ-loop
 shared-slice-read-map c = search needs
-
-cast-top : tie.Need-cast-top Inv-loop μ-loop
-cast-top c = search needs
-
-mul-top : tie.Need-mul-top Inv-loop μ-loop
-mul-top c = search needs
 
 loop-holds : tie.Need-loop-holds Inv-loop μ-loop
 loop-holds c = (omega arith, slot-none _)
@@ -153,8 +147,6 @@ slot-faults-spec =
     mul-map
     mul-map-2
     shared-slice-read-map
-    cast-top
-    mul-top
     loop-holds
     mul-b
     add-b
