@@ -1,63 +1,157 @@
 -- The soundness of a page slot by slot, as the code finds it. Assumes nothing.
-use Prim.Native.Nat.{ℕ, _+_, _*_}
+use Prim.Native.Nat.{ℕ, zero, suc, _+_, _*_, _%_, _^_, _<_}
 use mathlib.Core.Path.{_≡_, refl, sym, ap, _∙_}
-use mathlib.Core.Bool.{Bool, _&&_, _||_}
-use mathlib.Core.List.{List}
+use mathlib.Core.Bool.{Bool, true, false, not, _&&_, _||_}
+use mathlib.Core.List.{List, [], _∷_}
 use lib.Dec.{eqb, leb}
-use lib.Bits.{bitOr}
+use lib.Bits.{bitAnd, bitOr, and-zero-r, and-mask, or-lt}
 use lib.ListN.{getD}
 use native.Mathlib.Nat.{add-zero}
-use Rattle.words.specs.Tests.{all, all-both, and-true, and-assoc, and-cong, all-next}
+use native.Mathlib.Omega.{arith}
+use borrow.Author.Tests.{le-leb}
+use Rattle.words.specs.Tests.{all, all-both, all-same, all-intro, and-t, or-r, and-true, and-false, and-assoc, and-swap, and-cong, all-next}
 use Rattle.pages.specs.Geometry.{isRefAt}
-use Rattle.pages.specs.Objects.{taken}
+use Rattle.pages.specs.Objects.{taken, slotWord}
 use Rattle.pages.specs.Soundness.{mapSound, refSound, refsSound, slotZero, freeZero, pageSound}
 use Rattle.page_laws.specs.BitLaws.{or-none}
 
--- the eight words from b together, and whether the four from b are at most top
-abbrev pub orOfEight : List ℕ → ℕ → ℕ
-orOfEight a b = bitOr (bitOr (bitOr (bitOr (bitOr (bitOr (bitOr
-    (getD a b 0) (getD a (b + 1) 0)) (getD a (b + 2) 0)) (getD a (b + 3) 0)) (getD a (b + 4) 0)) (getD a (b + 5) 0)) (getD a (b + 6) 0)) (getD a (b + 7) 0)
+-- all bits for a free slot, none for one that is occupied
+abbrev pub freeBits : Bool → ℕ
+freeBits true = 0
+freeBits false = 4294967295
 
-abbrev pub fourUpTo : List ℕ → ℕ → ℕ → Bool
-fourUpTo a b top = leb (getD a b 0) top && leb (getD a (b + 1) 0) top && leb (getD a (b + 2) 0) top && leb (getD a (b + 3) 0) top
+-- the reference at i of a slot and the data word at j; t says that the slot is occupied
+abbrev pub columnSound : List ℕ → ℕ → ℕ → Bool → ℕ → Bool
+columnSound a i j t top = leb (getD a i 0) top && (t || (eqb (getD a i 0) 0 && eqb (getD a j 0) 0))
 
--- the tests of slot s of page p
-unfoldable pub takenOrZero : List ℕ → ℕ → ℕ → Bool
+-- four words are 0
+unfoldable pub noneOfFour : ℕ → ℕ → ℕ → ℕ → Bool
+noneOfFour f0 f1 f2 f3 = eqb f0 0 && eqb f1 0 && eqb f2 0 && eqb f3 0
+
+-- the tests of slot s of page p, with top for the largest reference
+abbrev refUpTo : List ℕ → ℕ → ℕ → ℕ → ℕ → Bool
+refUpTo a top p s f = not (isRefAt a p s f) || leb (slotWord a p s f) top
+
+abbrev takenOrZero : List ℕ → ℕ → ℕ → Bool
 takenOrZero a p s = taken a p s || slotZero a p s
 
 unfoldable pub slotSound : List ℕ → ℕ → ℕ → ℕ → Bool
-slotSound a n p s = all (refSound a n p s) 8 && takenOrZero a p s
+slotSound a top p s = all (refUpTo a top p s) 8 && takenOrZero a p s
 
--- the references of a slot are its first four words
-pub refs-four : (a : List ℕ) (n p s : ℕ) → fourUpTo a (129 * p + 1 + 8 * s) (16 * n) ≡ all (refSound a n p s) 8
-unfolding all isRefAt
-refs-four a n p s = simp (add-zero, and-true)
+and-comm : (a b : Bool) → a && b ≡ b && a
+and-comm true b = sym (and-true b)
+and-comm false b = sym (and-false b)
 
--- eight words are 0 where all of them together are
-pub zero-eight : (a : List ℕ) (p s : ℕ) → eqb (orOfEight a (129 * p + 1 + 8 * s)) 0 ≡ slotZero a p s
-unfolding all slotZero
-zero-eight a p s = simp (add-zero, or-none)
+-- the bits of free in a word
+pub free-none : (v : ℕ) (t : Bool) → v < 2 ^ 32 → eqb (bitAnd v (freeBits t)) 0 ≡ t || eqb v 0
+free-none v true h = ap (λ (x : ℕ). eqb x 0) (and-zero-r v)
+free-none v false h = ap (λ (x : ℕ). eqb x 0) (and-mask v 32 ∙ mod-below v h)
+  where
+    mod-below : (v : ℕ) → v < 2 ^ 32 → v % 2 ^ 32 ≡ v
+    mod-below v h = omega arith
 
--- the map and the first k slots of page p
-unfoldable pub soundTo : List ℕ → ℕ → ℕ → ℕ → Bool
-soundTo a n p k = mapSound a p && all (slotSound a n p) k
+pub faults-none : (a : List ℕ) (before i j free up top : ℕ) (t : Bool) → getD a i 0 < 2 ^ 32 → getD a j 0 < 2 ^ 32 → free ≡ freeBits t → eqb up 0 ≡ leb (getD a i 0) top
+    → eqb (bitOr (bitOr before (bitAnd (bitOr (getD a i 0) (getD a j 0)) free)) up) 0 ≡ eqb before 0 && columnSound a i j t top
+faults-none a before i j free up top t hx hy e h =
+    or-none (bitOr before (bitAnd (bitOr x y) free)) up
+    ∙ and-cong (or-none before (bitAnd (bitOr x y) free) ∙ ap (λ (q : Bool). eqb before 0 && q) masked) h
+    ∙ and-assoc (eqb before 0) (t || (eqb x 0 && eqb y 0)) (leb x top)
+    ∙ ap (λ (q : Bool). eqb before 0 && q) (and-comm (t || (eqb x 0 && eqb y 0)) (leb x top))
+  where
+    x : ℕ
+    x = getD a i 0
 
-pub to-none : (a : List ℕ) (n p : ℕ) → mapSound a p ≡ soundTo a n p 0
-unfolding all soundTo
-to-none a n p = sym (and-true (mapSound a p))
+    y : ℕ
+    y = getD a j 0
 
-pub to-next : (a : List ℕ) (n p k : ℕ) (ok t : Bool) → ok ≡ soundTo a n p k → t ≡ slotSound a n p k → (ok && t) ≡ soundTo a n p (k + 1)
-unfolding soundTo
-to-next a n p k ok t h e = and-cong h e ∙ and-assoc (mapSound a p) (all (slotSound a n p) k) (slotSound a n p k)
-    ∙ ap (λ (x : Bool). mapSound a p && x) (all-next (slotSound a n p) k)
+    masked : eqb (bitAnd (bitOr x y) free) 0 ≡ t || (eqb x 0 && eqb y 0)
+    masked = rw e (free-none (bitOr x y) t (or-lt 32 x y hx hy) ∙ ap (λ (q : Bool). t || q) (or-none x y))
 
-pub to-end : (a : List ℕ) (n p k : ℕ) (ok : Bool) → ok ≡ soundTo a n p k → k ≡ 16 → ok ≡ pageSound a n p
-unfolding soundTo takenOrZero slotSound refsSound freeZero pageSound
-to-end a n p k ok h e = h ∙ rw (e, all-both (λ s. all (refSound a n p s) 8) (takenOrZero a p) 16) (sym (and-assoc (mapSound a p) (refsSound a n p) (freeZero a p)))
+-- tests taken by columns of two
+four-pairs : (a b c d e f g h : Bool) → (a && e) && (b && f) && (c && g) && (d && h) ≡ (a && b && c && d) && (e && f && g && h)
+four-pairs a b c d e f g h = rw (and-swap a e b f, and-swap (a && b) (e && f) c g, and-swap (a && b && c) (e && f && g) d h)
 
-pub slots-free : (a : List ℕ) (p : ℕ) → all (takenOrZero a p) 16 ≡ freeZero a p
-unfolding takenOrZero freeZero
-slots-free a p = refl
+flat : (p e f g h : Bool) → p && (e && f && g && h) ≡ p && e && f && g && h
+flat p e f g h = sym (and-assoc p (e && f && g) h) ∙ ap (λ (q : Bool). q && h) (sym (and-assoc p (e && f) g) ∙ ap (λ (q : Bool). q && g) (sym (and-assoc p e f)))
 
-pub either-cong : {a b p q : Bool} → a ≡ p → b ≡ q → (a || b) ≡ (p || q)
-either-cong e f = cc
+occupied-or : (t p q r s : Bool) → (t || p) && (t || q) && (t || r) && (t || s) ≡ t || (p && q && r && s)
+occupied-or true p q r s = refl
+occupied-or false p q r s = refl
+
+columns-by : (t u0 u1 u2 u3 n0 n1 n2 n3 n4 n5 n6 n7 : Bool)
+    → (u0 && (t || (n0 && n4))) && (u1 && (t || (n1 && n5))) && (u2 && (t || (n2 && n6))) && (u3 && (t || (n3 && n7)))
+    ≡ (u0 && u1 && u2 && u3) && (t || (n0 && n1 && n2 && n3 && n4 && n5 && n6 && n7))
+columns-by t u0 u1 u2 u3 n0 n1 n2 n3 n4 n5 n6 n7 =
+    four-pairs u0 u1 u2 u3 (t || (n0 && n4)) (t || (n1 && n5)) (t || (n2 && n6)) (t || (n3 && n7))
+    ∙ ap (λ (q : Bool). (u0 && u1 && u2 && u3) && q) (occupied-or t (n0 && n4) (n1 && n5) (n2 && n6) (n3 && n7)
+    ∙ ap (λ (q : Bool). t || q) (four-pairs n0 n1 n2 n3 n4 n5 n6 n7 ∙ flat (n0 && n1 && n2 && n3) n4 n5 n6 n7))
+
+-- the four columns of slot s of page p are the slot
+unfoldable pub columns : List ℕ → ℕ → Bool → ℕ → Bool
+columns a b t top = columnSound a b (b + 4) t top && columnSound a (b + 1) (b + 5) t top && columnSound a (b + 2) (b + 6) t top && columnSound a (b + 3) (b + 7) t top
+
+pub columns-slot : (a : List ℕ) (top p s : ℕ) → columns a (129 * p + 1 + 8 * s) (taken a p s) top ≡ slotSound a top p s
+unfolding all isRefAt slotZero slotSound columns
+columns-slot a top p s =
+    columns-by (taken a p s) (up b) (up (b + 1)) (up (b + 2)) (up (b + 3)) (no b) (no (b + 1)) (no (b + 2)) (no (b + 3)) (no (b + 4)) (no (b + 5)) (no (b + 6)) (no (b + 7))
+    ∙ and-cong refs (ap (λ (q : Bool). taken a p s || q) zeros)
+  where
+    b : ℕ
+    b = 129 * p + 1 + 8 * s
+
+    up : ℕ → Bool
+    up i = leb (getD a i 0) top
+
+    no : ℕ → Bool
+    no i = eqb (getD a i 0) 0
+
+    refs : up b && up (b + 1) && up (b + 2) && up (b + 3) ≡ all (refUpTo a top p s) 8
+    refs = simp (add-zero, and-true)
+
+    zeros : no b && no (b + 1) && no (b + 2) && no (b + 3) && no (b + 4) && no (b + 5) && no (b + 6) && no (b + 7) ≡ slotZero a p s
+    zeros = simp add-zero
+
+-- the faults of no slot, and of one more
+pub slot-none : (f : ℕ → Bool) → noneOfFour 0 0 0 0 ≡ all f 0
+unfolding all noneOfFour
+slot-none f = refl
+
+pub slot-next : (a : List ℕ) (top p k f0 f1 f2 f3 g0 g1 g2 g3 : ℕ) → noneOfFour f0 f1 f2 f3 ≡ all (slotSound a top p) k
+    → (let b = 129 * p + 1 + 8 * k in let t = taken a p k in
+    (eqb g0 0 ≡ eqb f0 0 && columnSound a b (b + 4) t top) × (eqb g1 0 ≡ eqb f1 0 && columnSound a (b + 1) (b + 5) t top)
+    × (eqb g2 0 ≡ eqb f2 0 && columnSound a (b + 2) (b + 6) t top) × (eqb g3 0 ≡ eqb f3 0 && columnSound a (b + 3) (b + 7) t top))
+    → noneOfFour g0 g1 g2 g3 ≡ all (slotSound a top p) (k + 1)
+unfolding columns noneOfFour
+slot-next a top p k f0 f1 f2 f3 g0 g1 g2 g3 h e =
+    and-cong (and-cong (and-cong (e .0) (e .1)) (e .2)) (e .3)
+    ∙ four-pairs (eqb f0 0) (eqb f1 0) (eqb f2 0) (eqb f3 0) _ _ _ _
+    ∙ and-cong h (columns-slot a top p k)
+    ∙ all-next (slotSound a top p) k
+
+pub faults-end : (a : List ℕ) (top p k f0 f1 f2 f3 : ℕ) → noneOfFour f0 f1 f2 f3 ≡ all (slotSound a top p) k → k ≡ 16
+    → eqb (bitOr (bitOr (bitOr f0 f1) f2) f3) 0 ≡ all (slotSound a top p) 16
+unfolding noneOfFour
+faults-end a top p k f0 f1 f2 f3 h e = simp or-none (rw (← e) h)
+
+-- the map and the slots, and the slots without their references: no word is above the largest
+pub page-slots : (a : List ℕ) (n p : ℕ) (t : Bool) → t ≡ all (slotSound a (16 * n) p) 16 → (mapSound a p && t) ≡ pageSound a n p
+unfolding slotSound refsSound freeZero pageSound
+page-slots a n p t e = rw (e, all-both (λ s. all (refSound a n p s) 8) (takenOrZero a p) 16) (sym (and-assoc (mapSound a p) (refsSound a n p) (freeZero a p)))
+
+pub slots-free : (a : List ℕ) (p : ℕ) → ((i : ℕ) → getD a i 0 < 2 ^ 32) → all (slotSound a 4294967295 p) 16 ≡ freeZero a p
+unfolding slotSound freeZero
+slots-free a p h = all-same _ _ 16 (λ s l. and-t _ (takenOrZero a p s) (all-intro _ 8 (λ f k. or-r (not (isRefAt a p s f)) _
+    (let w = h (129 * p + 1 + 8 * s + f) in le-leb (slotWord a p s f) 4294967295 (omega arith)))))
+
+-- the bits of free in a row of four words for a free slot, and one for an occupied slot
+abbrev pub freeRows : List ℕ
+freeRows = 4294967295 ∷ 4294967295 ∷ 4294967295 ∷ 4294967295 ∷ 0 ∷ 0 ∷ 0 ∷ 0 ∷ []
+
+abbrev FreeRow : ℕ → Type 0
+FreeRow d = (getD freeRows (4 * d) 0 ≡ freeBits (eqb d 1)) × (getD freeRows (4 * d + 1) 0 ≡ freeBits (eqb d 1))
+    × (getD freeRows (4 * d + 2) 0 ≡ freeBits (eqb d 1)) × (getD freeRows (4 * d + 3) 0 ≡ freeBits (eqb d 1))
+
+pub free-row : (d : ℕ) → d < 2 → FreeRow d
+free-row zero h = (refl, refl, refl, refl)
+free-row (suc zero) h = (refl, refl, refl, refl)
+free-row (suc (suc d)) h = absurd (omega arith)

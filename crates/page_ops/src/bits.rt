@@ -1,5 +1,6 @@
 ghost use mathlib.Core.Path.{_≡_};
 ghost use Prim.Native.Nat.{_^_, _<_};
+ghost use lib.Dec.{eqb, leb};
 ghost use Rattle.words.specs.Bits.{withBit, withoutBit, slotsSet};
 
 // The word with bit t only.
@@ -33,4 +34,11 @@ pub fn slots_set(m: u32) -> u32
     ensures { λ r. ⌜ r ≡ slotsSet m ⌝ }
 {
     u32::count_ones(m)
+}
+
+// All bits where x is above top, and none elsewhere: what a comparison of four words at a time gives.
+pub fn above(x: u32, top: u32) -> u32
+    ensures { λ r. ⌜ eqb r 0 ≡ leb x top ⌝ }
+{
+    if top < x { 0xffff_ffff } else { 0 }
 }

@@ -1,52 +1,52 @@
 ghost use mathlib.Core.Path.{_≡_};
+ghost use mathlib.Core.Bool.{Bool, _&&_};
 ghost use Prim.Native.Nat.{_+_, _*_, _<_, _≤_};
 ghost use lib.ListN.{length};
+ghost use lib.Dec.{eqb};
 ghost use Rattle.words.specs.Tests.{all};
 ghost use Rattle.pages.specs.Soundness.{freeZero, pageSound, areaSound};
-ghost use Rattle.page_ops.specs.SoundLaws.{orOfEight, fourUpTo, takenOrZero, slotSound};
+ghost use Rattle.page_ops.specs.SoundLaws.{freeBits, columnSound, slotSound};
+use super::bits;
 
-// All eight words from b together.
-fn or_of_eight(a: &[u32], b: usize) -> u32
-    requires { ⌜ b + 8 ≤ length (now a) ⌝ }
-    ensures { λ r. ⌜ r ≡ orOfEight (now (a .entry)) b ⌝ }
+// The faults found before, and those of the reference at i and the data word at j of one slot: the reference is above top, or one
+// of the two is not 0 where free has all bits. (It has none for an occupied slot.)
+fn faults(before: u32, a: &[u32], i: usize, j: usize, free: u32, top: u32) -> u32
+    requires { ⌜ (i < length (now a)) × (j < length (now a)) ⌝ }
+    ensures { λ r. ⌜ ((t : Bool) → free ≡ freeBits t → eqb r 0 ≡ eqb before 0 && columnSound (now (a .entry)) i j t top) ⌝ }
 {
-    a[b] | a[b + 1] | a[b + 2] | a[b + 3] | a[b + 4] | a[b + 5] | a[b + 6] | a[b + 7]
+    before | ((a[i] | a[j]) & free) | bits::above(a[i], top)
 }
 
-// Whether the four words from b are at most top.
-fn four_up_to(a: &[u32], b: usize, top: u32) -> bool
-    requires { ⌜ b + 4 ≤ length (now a) ⌝ }
-    ensures { λ r. ⌜ r ≡ fourUpTo (now (a .entry)) b top ⌝ }
+// The faults of the slots of page p, 0 where there are none: a reference above top, or a free slot that is not zero. A column for each
+// reference and the data word four after it, so that it goes four words at a time, with no branch for a slot.
+fn slot_faults(a: &[u32], p: usize, top: u32) -> u32
+    requires { ⌜ 129 * p + 129 ≤ length (now a) ⌝ }
+    ensures { λ r. ⌜ eqb r 0 ≡ all (slotSound (now (a .entry)) top p) 16 ⌝ }
 {
-    (a[b] <= top) & (a[b + 1] <= top) & (a[b + 2] <= top) & (a[b + 3] <= top)
+    let map = a[129 * p];
+    let ones = 0xffff_ffffu32;
+    let free = [ones, ones, ones, ones, 0, 0, 0, 0];
+    let mut f0: u32 = 0;
+    let mut f1: u32 = 0;
+    let mut f2: u32 = 0;
+    let mut f3: u32 = 0;
+    for s in 0..16usize {
+        let b = 129 * p + 1 + 8 * s;
+        let m = 4 * ((map >> s) % 2) as usize;
+        f0 = faults(f0, a, b, b + 4, free[m], top);
+        f1 = faults(f1, a, b + 1, b + 5, free[m + 1], top);
+        f2 = faults(f2, a, b + 2, b + 6, free[m + 2], top);
+        f3 = faults(f3, a, b + 3, b + 7, free[m + 3], top);
+    }
+    f0 | f1 | f2 | f3
 }
 
-// Whether slot s of page p is occupied or zero.
-fn taken_or_zero(a: &[u32], p: usize, s: usize) -> bool
-    requires { ⌜ (s < 16) × (129 * p + 129 ≤ length (now a)) ⌝ }
-    ensures { λ r. ⌜ r ≡ takenOrZero (now (a .entry)) p s ⌝ }
-{
-    words::has_bit(a[129 * p], s) | (or_of_eight(a, 129 * p + 1 + 8 * s) == 0)
-}
-
-// Whether the references of slot s of page p are in range, and the slot zero if it is free.
-fn slot_sound(a: &[u32], n: usize, p: usize, s: usize) -> bool
-    requires { ⌜ (n ≤ 256) × (s < 16) × (129 * p + 129 ≤ length (now a)) ⌝ }
-    ensures { λ r. ⌜ r ≡ slotSound (now (a .entry)) n p s ⌝ }
-{
-    four_up_to(a, 129 * p + 1 + 8 * s, 16 * (n as u32)) & taken_or_zero(a, p, s)
-}
-
-// Whether page p of n is sound. No slot ends the scan early: a branch for each would cost more than it saves.
+// Whether page p of n is sound.
 pub fn page_sound(a: &[u32], n: usize, p: usize) -> bool
     requires { ⌜ (n ≤ 256) × (129 * p + 129 ≤ length (now a)) ⌝ }
     ensures { λ r. ⌜ r ≡ pageSound (now (a .entry)) n p ⌝ }
 {
-    let mut ok = a[129 * p] <= 65535;
-    for s in 0..16usize {
-        ok = ok & slot_sound(a, n, p, s);
-    }
-    ok
+    (a[129 * p] <= 65535) & (slot_faults(a, p, 16 * (n as u32)) == 0)
 }
 
 // Whether a page area of n pages is sound.
@@ -62,16 +62,12 @@ pub fn area_sound(a: &[u32], n: usize) -> bool
     words::has_bit(a[0], 0)
 }
 
-// Whether the free slots of page p are zero.
+// Whether the free slots of page p are zero: no reference is above the largest word.
 pub fn free_zero(a: &[u32], p: usize) -> bool
     requires { ⌜ 129 * p + 129 ≤ length (now a) ⌝ }
     ensures { λ r. ⌜ r ≡ freeZero (now (a .entry)) p ⌝ }
 {
-    let mut ok = true;
-    for s in 0..16usize {
-        ok = ok & taken_or_zero(a, p, s);
-    }
-    ok
+    slot_faults(a, p, 0xffff_ffff) == 0
 }
 
 // The same of every page.

@@ -2,6 +2,7 @@
 mod effects;
 mod naming;
 mod order;
+mod ranges;
 mod room;
 mod sound;
 
@@ -16,8 +17,8 @@ pub use order::in_order;
 pub use order::log_sound;
 pub use order::open_in;
 pub use order::open_next;
+pub use ranges::records_sound;
 pub use room::changes_left;
 pub use room::reserved;
 pub use room::reserves;
-pub use sound::records_sound;
 pub use sound::word_sound;

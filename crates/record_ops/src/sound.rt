@@ -1,7 +1,7 @@
 ghost use mathlib.Core.Path.{_≡_};
 ghost use Prim.Native.Nat.{_*_, _<_, _≤_};
 ghost use lib.ListN.{length};
-ghost use Rattle.records.specs.Soundness.{kindSound, txnSound, objectSound, fieldSound, referenceSound, oldSound, newSound, wordSound, recordsSound};
+ghost use Rattle.records.specs.Soundness.{kindSound, txnSound, objectSound, fieldSound, referenceSound, oldSound, newSound, wordSound};
 use records::Record;
 
 // Word 0: a known kind.
@@ -91,26 +91,4 @@ pub fn word_sound(r: Record, n: usize, w: usize) -> bool
         4 => old_sound(r, n),
         _ => new_sound(r, n),
     }
-}
-
-// Whether each of the first c records is sound by itself: the first unsound word ends the scan.
-pub fn records_sound(log: &[u32], n: usize, c: usize) -> bool
-    requires { ⌜ (6 * c ≤ length (now log)) × (n ≤ 256) ⌝ }
-    ensures { λ b. ⌜ b ≡ recordsSound n (now (log .entry)) c ⌝ }
-{
-    let mut ok = true;
-    let mut i: usize = 0;
-    'records: while i < c {
-        let r = log_reader::record_at(log, i);
-        let mut w: usize = 0;
-        while w < 6 {
-            if !word_sound(r, n, w) {
-                ok = false;
-                break 'records;
-            }
-            w += 1;
-        }
-        i += 1;
-    }
-    ok
 }

@@ -38,7 +38,7 @@ cast-records-sound : tie.Need-cast-records-sound
 cast-records-sound c = omega (arith, c .shared-slice-known6 .given 0)
 
 records-sound-requires : tie.Need-records-sound-requires
-records-sound-requires c κs = let k = counts-facts _ _ (sym (c .before .before .before .before .before .before .before .before .counts-in-range .ensures) ∙ not-false _ (c .before .before .before .before .before .before .before .if1 .left)) in (omega arith, omega arith)
+records-sound-requires c κs = let k = counts-facts _ _ (sym (c .before .before .before .before .before .before .before .before .counts-in-range .ensures) ∙ not-false _ (c .before .before .before .before .before .before .before .if1 .left)) in (omega arith, omega arith, omega arith)
 
 returns-5 : tie.Need-returns-5
 returns-5 c = range-goes _ _ _ _ _ _ _ (sym (c .before .before .before .before .before .before .before .before .before .counts-in-range .ensures) ∙ not-false _ (c .before .before .before .before .before .before .before .before .if1 .left)) (sym (c .before .before .before .before .before .before .before .work-in-range .ensures) ∙ not-false _ (c .before .before .before .before .before .before .if2 .left)) (sym (c .before .before .before .before .before .area-sound .ensures) ∙ not-false _ (c .before .before .before .before .if3 .left)) (sym (c .before .before .before .area-sound2 .ensures) ∙ not-false _ (c .before .before .if4 .left)) (c .records-sound .ensures)

@@ -1,57 +1,38 @@
--- Invariant: the flag says whether the map and the slots passed are sound. Assumes nothing.
+-- The map is sound, and the slots have no faults. Assumes nothing.
+use Rattle.page_ops.specs.SoundLaws.{page-slots}
 use borrow.Author.Needs.{needs}
-use native.Mathlib.Omega.{arith}
-use mathlib.Core.Path.{_≡_}
-use Prim.Native.Nat.{_≤_, _-_}
-use Rattle.page_ops.specs.SoundLaws.{soundTo, to-none, to-next, to-end}
 use Rattle.page_ops.proofs.sound.page_sound.Statement.{statement}
 use Rattle.page_ops.proofs.sound.page_sound.Tie as tie
 
-abbrev Inv-loop : tie.InvT-loop
-Inv-loop a n p ok₀ s₀ ok s = (s ≤ 16) × (ok ≡ soundTo a n p s)
+mul-result : tie.Need-mul-result
+mul-result c = search needs
 
-abbrev μ-loop : tie.MeasureT-loop
-μ-loop a n p ok₀ s₀ ok s = 16 - s
+mul-result-2 : tie.Need-mul-result-2
+mul-result-2 c = search needs
 
-mul-ok : tie.Need-mul-ok Inv-loop μ-loop
-mul-ok c = search needs
+shared-slice-read-result : tie.Need-shared-slice-read-result
+shared-slice-read-result c = search needs
 
-mul-ok-2 : tie.Need-mul-ok-2 Inv-loop μ-loop
-mul-ok-2 c = search needs
+cast-slot-faults : tie.Need-cast-slot-faults
+cast-slot-faults c = search needs
 
-shared-slice-read-ok : tie.Need-shared-slice-read-ok Inv-loop μ-loop
-shared-slice-read-ok c = search needs
+mul-slot-faults : tie.Need-mul-slot-faults
+mul-slot-faults c = search needs
 
-loop-holds : tie.Need-loop-holds Inv-loop μ-loop
-loop-holds c = (omega arith, to-none _ _ _)
+slot-faults-requires : tie.Need-slot-faults-requires
+slot-faults-requires c κs = search needs
 
-slot-sound-requires : tie.Need-slot-sound-requires Inv-loop μ-loop
-slot-sound-requires c κs = search needs
-
-add-s : tie.Need-add-s Inv-loop μ-loop
-add-s c = search needs
-
-loop-less : tie.Need-loop-less Inv-loop μ-loop
-loop-less c = search needs
-
-loop-again : tie.Need-loop-again Inv-loop μ-loop
-loop-again c = (omega arith, to-next _ _ _ _ _ _ (c .before .before .loop .inv .1) (c .slot-sound .ensures))
-
-returns : tie.Need-returns Inv-loop μ-loop
-returns c = to-end _ _ _ _ _ (c .before .loop .inv .1) (omega arith)
+returns : tie.Need-returns
+returns c = page-slots _ _ _ _ (c .slot-faults .ensures)
 
 pub page-sound-spec : {M : Type 1} → statement M
 page-sound-spec =
     tie.close
     (tie.spec
-    Inv-loop
-    μ-loop
-    mul-ok
-    mul-ok-2
-    shared-slice-read-ok
-    loop-holds
-    slot-sound-requires
-    add-s
-    loop-less
-    loop-again
+    mul-result
+    mul-result-2
+    shared-slice-read-result
+    cast-slot-faults
+    mul-slot-faults
+    slot-faults-requires
     returns)
