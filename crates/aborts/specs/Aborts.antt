@@ -1,10 +1,9 @@
 -- The check of an abort, the restored copies and its outcome, of the lists that the code has. n is the number of pages. Assumes nothing.
 use Prim.Native.Nat.{ℕ, zero, suc, _+_, _*_, _/_, _<_, _≤_}
 use mathlib.Core.Path.{_≡_, refl, sym, ap, _∙_}
-use mathlib.Core.Bool.{Bool, true, false}
+use mathlib.Core.Bool.{true, false}
 use mathlib.Core.List.{List, [], _∷_}
 use lib.ListN.{length, getD, set}
-use lib.Seq.{getD-set-same}
 use native.Mathlib.Numerals.{add-one}
 use native.Mathlib.Omega.{arith}
 use borrow.Author.Tests.{lt-ltb, le-ltb}
@@ -21,14 +20,11 @@ use Rattle.areas.specs.declared.Answer.the-variants.{Done}
 use Rattle.areas.specs.Answers.{need-holds, need-fails}
 use Rattle.areas.specs.Areas.{Areas, Out, areas, out, receivedCount, withCopies, withWork, appended}
 use Rattle.areas.specs.Tables.{isActive, canWrite}
-use Rattle.areas.specs.Entry.{records}
 use Rattle.calls.specs.Room.{roomWithin}
 use Rattle.calls.specs.Transactions.{endedTables, changesOf, rolledBack, restored, abortCheck, aborted}
 use Rattle.acceptance.specs.Entered.{Open}
 use Rattle.acceptance.specs.Transactions.{abort-facts}
-use Rattle.record_laws.specs.EffectLaws.{sound-for}
-use Rattle.store_ops.specs.Logs.{Fits, counted, open-kept}
-use Rattle.store_ops.specs.Kinds.{aborted-sound}
+use Rattle.store_ops.specs.Logs.{counted, open-kept}
 use Rattle.aborts.specs.Rolling.{Undoable}
 
 -- no more changes than records

@@ -3,7 +3,7 @@ use Prim.Native.Nat.{ℕ, zero, suc, _+_, _*_, _-_, _/_, _<_, _≤_}
 use mathlib.Core.Path.{_≡_, refl, sym, ap, _∙_, subst}
 use mathlib.Core.Bool.{Bool, true, false}
 use mathlib.Core.List.{List, [], _∷_}
-use lib.ListN.{length, getD, set, length-set}
+use lib.ListN.{length, getD, set}
 use lib.Seq.{getD-set-same}
 use native.Mathlib.Omega.{arith}
 use Rattle.words.specs.Tests.{if, by-bool, if-t, if-f, and-l}
@@ -12,7 +12,7 @@ use Rattle.records.specs.Records.{recordAt, recorded, isBegin, isChange, aborte
 use Rattle.records.specs.Effects.{effect, undoing}
 use Rattle.records.specs.Soundness.{recordSound, recordsSound}
 use Rattle.records.specs.Changes.{changesIn, changesLeft}
-use Rattle.record_laws.specs.RecordLaws.{Agree, begunIn, changesNext, recorded-other, records-sound-at}
+use Rattle.record_laws.specs.RecordLaws.{Agree, begunIn, recorded-other, records-sound-at}
 use Rattle.areas.specs.Areas.{Areas, areas, appended}
 use Rattle.calls.specs.Transactions.{rolledBack}
 use Rattle.store_ops.specs.Logs.{Kept, Fits}

@@ -1,5 +1,4 @@
 -- 'Refused calls change nothing', of every call. Assumes nothing.
-use mathlib.Core.Path.{_≡_}
 use Rattle.areas.specs.Areas.{Areas}
 use Rattle.calls.specs.Calls.{Call, perform}
 use Rattle.calls.specs.Calls.Call.{begin, commit, abort, lockRead, lockWrite, read, create, setWord, flush, force, store, empty, pass, step, reopen, restep}

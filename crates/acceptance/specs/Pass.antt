@@ -4,7 +4,7 @@ use mathlib.Core.Path.{_≡_, refl, sym, ap, _∙_}
 use mathlib.Core.Bool.{Bool, true, false}
 use mathlib.Core.Logic.{_⊎_, inl, inr}
 use lib.Dec.{leb, eqb}
-use borrow.Author.Tests.{eqb-true, eqb-false, not-true, not-false}
+use borrow.Author.Tests.{eqb-true, eqb-false, not-true}
 use Rattle.words.specs.Tests.{if, if-t, if-f, by-bool, or-cases, clash}
 use Rattle.words.specs.Bits.{slotsSet}
 use Rattle.areas.specs.declared.Check.the-variants.{Pass}
@@ -20,10 +20,6 @@ use Rattle.acceptance.specs.Ran.{Passed, Outcome, outcome, outcome-done,
 
 pub record PassFacts (s : Areas) : Type 0 where
   pub none-runs : at (s .work) phaseAt ≡ 0
-
-pub pass-facts : (s : Areas) → passCheck s ≡ Pass → PassFacts s
-unfolding passCheck
-pass-facts s h = record { none-runs = eqb-true _ _ (not-false _ (not-true _ (need-passed _ _ _ h .0))) }
 
 pub pass-outcome : (s : Areas) → Outcome s (readiness true true s) (λ n. passCheck s) (callPass s) (λ n. done 0 (withWork s (passStarted (s .work) n)))
 unfolding callPass

@@ -9,16 +9,12 @@ use Rattle.words.specs.Tests.{if, all, and-split}
 use Rattle.pages.specs.Soundness.{areaSound, freeZero}
 use Rattle.records.specs.Order.{logSound}
 use Rattle.records.specs.Recovery.{recovered, recoverable}
-use Rattle.areas.specs.declared.Check.{Check}
 use Rattle.areas.specs.declared.Check.the-variants.{Pass}
-use Rattle.areas.specs.declared.Refusal.the-variants.{Malformed}
-use Rattle.areas.specs.Answers.{accepted, need, need-passed}
+use Rattle.areas.specs.Answers.{accepted, need-passed}
 use Rattle.areas.specs.Areas.{Areas, done, stableCount}
 use Rattle.areas.specs.Layout.{reopeningPageAt}
 use Rattle.areas.specs.Tables.{at}
-use Rattle.areas.specs.Ranges.{fit}
 use Rattle.areas.specs.Entry.{pages, records, reopening, readiness}
-use Rattle.calls.specs.Formatting.{formatted, callFormat}
 use Rattle.calls.specs.Reopening.{reopenCheck, reopened, callReopen, restepCheck, pageStored, reopeningOver, callRestep}
 use Rattle.acceptance.specs.Lengths.{Sized, sized}
 use Rattle.acceptance.specs.Needs.{passed-2}
@@ -72,18 +68,3 @@ pub restep-outcome : (s : Areas) →
     Outcome s (readiness false true s) (λ n. restepCheck s) (callRestep s) (λ n. done (at (s .work) reopeningPageAt) (restepped s n))
 unfolding callRestep
 restep-outcome s = outcome-done _ _ _ (λ n. at (s .work) reopeningPageAt) (restepped s)
-
--- 'format and reopen check lengths only'
-abbrev pub formatCheck : Areas → Check
-formatCheck s = need (fit s) Malformed Pass
-
-pub format-facts : (s : Areas) → formatCheck s ≡ Pass → Sized s (pages s)
-format-facts s h = sized s (pages s) (need-passed (fit s) _ _ h .0) refl
-
-pub format-ran : (s : Areas) → accepted (callFormat s .answer) ≡ true → Passed (formatCheck s) (callFormat s) (done 0 (formatted (pages s) (records s)))
-unfolding callFormat
-format-ran s h = checked-ran (formatCheck s) s (done 0 (formatted (pages s) (records s))) h
-
-pub format-keeps : (s : Areas) → Keeps s (callFormat s)
-unfolding callFormat
-format-keeps s = checked-keeps (formatCheck s) s _ (done-keeps s 0 (formatted (pages s) (records s)))

@@ -1,15 +1,12 @@
 -- The page that the bench's flush sends, word by word. Assumes nothing.
-use Prim.Native.Nat.{ℕ, zero, suc, _+_, _*_, _-_, _<_, _≤_}
+use Prim.Native.Nat.{ℕ, zero, suc, _+_, _*_, _-_, _<_}
 use mathlib.Core.Path.{_≡_, refl, sym, ap, _∙_}
 use mathlib.Core.List.{List, [], _∷_, _++_}
-use lib.ListN.{length, getD, set, take, drop, replicate, length-replicate, getD-replicate, length-append, length-take, length-drop, List·getD-append, List·getD-eq-default}
-use lib.Seq.{ext-getD, getD-take, getD-drop, getD-append-add}
-use lib.Dec.{ltb}
+use lib.ListN.{length, getD, set, take, drop, replicate, length-replicate, getD-replicate, length-append, length-take}
+use lib.Seq.{ext-getD, getD-take, getD-drop}
 use native.Mathlib.Nat.{zero-add}
 use native.Mathlib.Omega.{arith}
-use Rattle.words.specs.Tests.{by-bool}
 use Rattle.words.specs.Spans.{fill, fill-inside, length-fill}
-use Rattle.pages.specs.Geometry.{pageAt, pageWords}
 use Rattle.page_laws.specs.Runs.{fill-turn}
 use Rattle.areas.specs.Areas.{areas}
 use Rattle.bench_run.specs.Bench.{pageSent}

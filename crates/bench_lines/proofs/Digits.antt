@@ -1,14 +1,12 @@
 -- Laws of `numberOf`.
-use Prim.Native.Nat.{ℕ, suc, _<_, _≤_}
-use mathlib.Core.Path.{_≡_, refl, sym, _∙_}
-use mathlib.Core.Bool.{Bool, true, false, _&&_, and-false}
+use Prim.Native.Nat.{ℕ, _<_, _≤_}
+use mathlib.Core.Path.{_≡_, refl}
+use mathlib.Core.Bool.{true, false, and-false}
 use mathlib.Core.List.{List, [], _∷_}
-use native.Mathlib.Omega.{arith}
-use lib.Dec.{eqb, ltb, leb}
-use lib.ListN.{length, getD}
+use lib.Dec.{leb}
+use lib.ListN.{length}
 use borrow.Author.Tests.{le-leb, lt-leb, eq-eqb, ne-eqb}
 use Rattle.bench_lines.specs.Numbers.{isDigit, andDigit, digitsFrom, zeroLeads, numberOf}
-use Rattle.bench_lines.specs.declared.Number.{Number}
 use Rattle.bench_lines.specs.declared.Number.the-variants.{Is, Not}
 
 pub digits-end : (n : ℕ) → digitsFrom n [] ≡ Is n

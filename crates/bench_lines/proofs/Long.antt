@@ -1,5 +1,5 @@
 -- A line of more than 47 bytes is no call: `set` and four numbers of ten digits are the most.
-use Prim.Native.Nat.{ℕ, zero, suc, _+_, _-_, _*_, _^_, _<_, _≤_}
+use Prim.Native.Nat.{ℕ, suc, _+_, _-_, _*_, _^_, _<_, _≤_}
 use mathlib.Core.Path.{_≡_, refl, sym, ap, subst, _∙_}
 use mathlib.Core.Logic.{_⊎_, inl, inr}
 use mathlib.Core.Bool.{Bool, true, false, _&&_, _||_, cond as if}
@@ -7,13 +7,12 @@ use mathlib.Core.List.{List, [], _∷_}
 use native.Mathlib.Nat.{pow-suc, pow-le-pow-right, mul-le-mul-right, mul-assoc, mul-comm, one-mul, le-trans, add-zero, add-assoc, eq-or-lt-of-le}
 use native.Mathlib.Omega.{arith}
 use lib.Dec.{leb, ltb, eqb}
-use lib.ListN.{length, getD}
+use lib.ListN.{length}
 use borrow.Author.Tests.{leb-true, leb-false, eqb-false, ltb-false}
 use Rattle.bench_lines.specs.Lines.{onto}
-use Rattle.bench_lines.specs.Numbers.{isDigit, andDigit, digitsFrom, zeroLeads, numberOf}
+use Rattle.bench_lines.specs.Numbers.{isDigit, andDigit, digitsFrom, numberOf}
 use Rattle.bench_lines.specs.Commands.{comma, same, fieldsOf, andNumber, numbersFrom, callAlone, callOne, callTwo, callFour, callOf, callOfFields, commandOf}
 use Rattle.bench_lines.specs.Commands.{begin, commit, abort, lockr, lockw, flush, read, create, set, store, force, empty, pass, step, reopen, restep}
-use Rattle.bench_lines.specs.declared.Command.{Command}
 use Rattle.bench_lines.specs.declared.Command.the-variants.{NoCall}
 use Rattle.bench_lines.specs.declared.Number.{Number}
 use Rattle.bench_lines.specs.declared.Number.the-variants.{Is, Not}

@@ -7,7 +7,6 @@ use borrow.Author.Tests.{eq-eqb, ne-eqb}
 use Rattle.bench_lines.specs.Lines.{cr, lf}
 use Rattle.bench_lines.specs.Reading.{noLine, pushed, settled, heldCommand, fed, finished}
 use Rattle.bench_lines.specs.declared.Line.{Line}
-use Rattle.bench_lines.specs.declared.Ended.{Ended}
 use Rattle.bench_lines.specs.declared.Ended.the-variants.{No, Yes}
 use Rattle.bench_lines.specs.declared.Fed.{Fed}
 

@@ -8,14 +8,14 @@ use native.Mathlib.Omega.{arith}
 use lib.Dec.{ltb, leb, eqb}
 use lib.ListN.{length, take, set, length-append, length-set}
 use lib.Seq.{take-suc-set}
-use borrow.Author.Tests.{lt-ltb, le-ltb, ltb-true, ltb-false, leb-true, leb-false, eqb-true, eqb-false, eq-eqb, ne-eqb}
+use borrow.Author.Tests.{lt-ltb, le-ltb, ltb-true, ltb-false, leb-true, leb-false, eqb-true, eqb-false, ne-eqb}
 use Rattle.bench_lines.specs.Lines.{cr, lf, onto, linesOf}
 use Rattle.bench_lines.specs.Commands.{commandOf}
-use Rattle.bench_lines.specs.Reading.{noLine, pushed, settled, heldCommand, fed, finished, Stands, andThen, commandsFrom}
+use Rattle.bench_lines.specs.Reading.{noLine, pushed, settled, heldCommand, fed, Stands, andThen, commandsFrom}
 use Rattle.bench_lines.specs.declared.Command.{Command}
 use Rattle.bench_lines.specs.declared.Line.{Line}
 use Rattle.bench_lines.specs.declared.Ended.{Ended}
-use Rattle.bench_lines.specs.declared.Ended.the-variants.{No, Yes}
+use Rattle.bench_lines.specs.declared.Ended.the-variants.{Yes}
 use Rattle.bench_lines.specs.declared.Fed.{Fed}
 use Rattle.bench_lines.proofs.Long.{long-no-call}
 use Rattle.bench_lines.proofs.Steps.{if-t, if-f, withCr, going, settled-cr, settled-not, fed-end, fed-cr, fed-byte, finished-none, finished-some}

@@ -1,6 +1,6 @@
 -- Document 01, the bench program: "lines end in CRLF, which the last input line may lack".
 use Prim.Native.Nat.{ℕ}
-use mathlib.Core.Bool.{Bool, _&&_, cond as if}
+use mathlib.Core.Bool.{_&&_, cond as if}
 use mathlib.Core.List.{List, [], _∷_}
 use lib.Dec.{eqb}
 

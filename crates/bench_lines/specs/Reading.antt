@@ -1,7 +1,7 @@
 -- The input read byte by byte: the line so far, and what each byte makes of it.
 use Prim.Native.Nat.{ℕ, _+_, _≤_, _<_}
 use mathlib.Core.Path.{_≡_}
-use mathlib.Core.Bool.{Bool, true, false, _&&_, cond as if}
+use mathlib.Core.Bool.{true, false, _&&_, cond as if}
 use mathlib.Core.List.{List, [], _∷_}
 use lib.Dec.{ltb, eqb}
 use lib.ListN.{length, take, set, replicate}

@@ -1,10 +1,10 @@
 -- Document 01, 'The book': what it keeps, the committed state, the full pages, and what a cut drops. Assumes nothing.
-use Prim.Native.Nat.{ℕ, zero, suc, _+_, _-_}
-use mathlib.Core.Bool.{Bool, true, false, not, _&&_, _||_}
-use mathlib.Core.List.{List, [], _∷_}
+use Prim.Native.Nat.{ℕ, _-_}
+use mathlib.Core.Bool.{Bool, false, not, _&&_, _||_}
+use mathlib.Core.List.{List, []}
 use lib.ListN.{length, drop}
 use lib.Dec.{eqb}
-use Rattle.words.specs.Tests.{if, any}
+use Rattle.words.specs.Tests.{any}
 use Rattle.records.specs.Records.{isSweep}
 use Rattle.book.specs.Lines.{Line, hasCommit, hasEnd, filtered, pagesAfter}
 

@@ -1,7 +1,7 @@
 -- Demand 3, as one statement over every list of calls and cuts from a freshly formatted store on. Assumes nothing.
 use Prim.Native.Nat.{ℕ, _≤_}
 use mathlib.Core.Path.{_≡_}
-use mathlib.Core.Bool.{Bool, true, false, not, _&&_}
+use mathlib.Core.Bool.{Bool, true, not, _&&_}
 use mathlib.Core.List.{List, [], _∷_}
 use Rattle.words.specs.Tests.{if}
 use Rattle.pages.specs.Geometry.{isObject, maxPages}
@@ -12,7 +12,7 @@ use Rattle.areas.specs.Areas.{Areas}
 use Rattle.areas.specs.Entry.{reopening}
 use Rattle.calls.specs.Formatting.{formatted, cut}
 use Rattle.calls.specs.Calls.{Call, step, restep, perform}
-use Rattle.book.specs.Books.{Stage, opened, awaiting, storing, Book, blank, committedLines, fullLines, committedPages, fullPages, stopped}
+use Rattle.book.specs.Books.{opened, awaiting, storing, Book, blank, committedLines, fullLines, committedPages, fullPages, stopped}
 use Rattle.book.specs.Feeding.{fed}
 use Rattle.book.specs.Pointers.{Reached, Leads}
 

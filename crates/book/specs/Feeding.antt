@@ -1,8 +1,8 @@
 -- Document 01, 'The book': 'It .. is fed the calls, whether each was accepted, the cuts, and the slots that each pass step clears in the
 -- received maps.' Nothing else of the store is looked at. Assumes nothing.
 use Prim.Native.Nat.{ℕ, zero, suc, _+_}
-use mathlib.Core.Bool.{Bool, true, false, not, _&&_, _||_}
-use mathlib.Core.List.{List, [], _∷_}
+use mathlib.Core.Bool.{Bool, false, not, _&&_, _||_}
+use mathlib.Core.List.{List, _∷_}
 use lib.Dec.{eqb, ltb}
 use Rattle.words.specs.Tests.{if, any}
 use Rattle.words.specs.Bits.{mapOf}

@@ -6,7 +6,7 @@ use lib.Dec.{eqb}
 use Rattle.words.specs.Tests.{if}
 use Rattle.pages.specs.Objects.{formattedPages}
 use Rattle.records.specs.declared.Record.{Record}
-use Rattle.records.specs.Records.{isEnd, isSweep}
+use Rattle.records.specs.Records.{isEnd}
 use Rattle.records.specs.Effects.{effect, undoing}
 
 -- 'Each record that an accepted call appends by these papers is a line; each begin line opens a transaction of its own': the record,

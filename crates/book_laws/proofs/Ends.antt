@@ -82,9 +82,6 @@ module _ (i : ℕ) where
   pub ended-by : (ls : List Line) (l : Line) → In l ls → isEnd (l .entry) ≡ true → l .owner ≡ i → hasEnd i ls ≡ true
   ended-by ls l j e o = end-any ls ∙ any-line (ends i) ls l j (rw (e, eq-eqb (l .owner) i o))
 
-  pub committed-by : (ls : List Line) (l : Line) → In l ls → eqb (l .entry .kind) 4 ≡ true → l .owner ≡ i → hasCommit i ls ≡ true
-  committed-by ls l j e o = commit-any ls ∙ any-line (commits i) ls l j (rw (e, eq-eqb (l .owner) i o))
-
   -- nobody of that owner, nothing ended
   pub no-end : (ls : List Line) → Each (λ l. l .owner ≡ i → ⊥) ls → hasEnd i ls ≡ false
   no-end ls h = end-any ls ∙ any-false (ends i) ls (λ l j. rw (ne-eqb (l .owner) i (h l j)) (none (isEnd (l .entry))))

@@ -10,8 +10,8 @@ use Rattle.words.specs.Tests.{or-r}
 use Rattle.records.specs.declared.Record.{Record}
 use Rattle.records.specs.Records.{isSweep, beginOf, sweepOf}
 use Rattle.book.specs.Lines.{Line, line, hasCommit}
-use Rattle.book.specs.Books.{Stage, Book, runs, countsCommitted, countsFull, fullLines}
-use Rattle.book.specs.Feeding.{adds, learns, begins, forced, atStage}
+use Rattle.book.specs.Books.{Book, runs, countsCommitted, countsFull, fullLines}
+use Rattle.book.specs.Feeding.{adds, learns, begins}
 use Rattle.book_laws.specs.Seen.{counted, acted, seenCommitted, seenFull}
 use Rattle.book_laws.specs.After.{sweptBy}
 use Rattle.book_laws.specs.Keeping.{Runs, BookInv}
@@ -70,23 +70,3 @@ module _ (b : Book) where
   pub learn-full : (t : ℕ) (f : ℕ → Bool) → fullLines (learns b t f) ≡ fullLines b
   unfolding fullLines runs
   learn-full t f = refl
-
-  pub learn-shows : (t : ℕ) (f : ℕ → Bool) (x : ℕ) → seenFull (learns b t f) x ≡ seenFull b x
-  unfolding runs
-  learn-shows t f x = refl
-
-  pub force-full : fullLines (forced b) ≡ fullLines b
-  unfolding fullLines runs
-  force-full = refl
-
-  pub force-shows : (x : ℕ) → seenFull (forced b) x ≡ seenFull b x
-  unfolding runs
-  force-shows x = refl
-
-  pub stage-full : (g : Stage) → fullLines (atStage b g) ≡ fullLines b
-  unfolding fullLines runs
-  stage-full g = refl
-
-  pub stage-shows : (g : Stage) (x : ℕ) → seenFull (atStage b g) x ≡ seenFull b x
-  unfolding runs
-  stage-shows g x = refl

@@ -31,11 +31,6 @@ in-filtered f (m ∷ ls) l i = by-bool (f m)
     (λ e. taken f m ls l e (λ j. in-filtered f ls l j) (rw e at i))
     (λ e. let k = in-filtered f ls l (rw e at i) in (later (k .0), k .1))
 
-pub filtered-in : (f : Line → Bool) (ls : List Line) (l : Line) → In l ls → f l ≡ true → In l (filtered f ls)
-unfolding filtered
-filtered-in f (m ∷ ls) l here e = rw e here
-filtered-in f (m ∷ ls) l (later i) e = by-bool (f m) (λ k. rw k (later (filtered-in f ls l i e))) (λ k. rw k (filtered-in f ls l i e))
-
 pub any-line : (f : Line → Bool) (ls : List Line) (l : Line) → In l ls → f l ≡ true → anyLine f ls ≡ true
 unfolding anyLine
 any-line f (m ∷ ls) l here e = or-l (f m) (anyLine f ls) e

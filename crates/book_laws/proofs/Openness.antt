@@ -12,8 +12,8 @@ use Rattle.records.specs.declared.Record.{Record}
 use Rattle.records.specs.Records.{beginOf, commitOf, abortedOf, sweepOf}
 use Rattle.records.specs.Effects.{undoing}
 use Rattle.book.specs.Lines.{Line, line, isLeft}
-use Rattle.book.specs.Books.{Stage, Book, stopped}
-use Rattle.book.specs.Feeding.{withLines, adds, learns, begins, ends, forced, atStage}
+use Rattle.book.specs.Books.{Book}
+use Rattle.book.specs.Feeding.{withLines, adds, learns, begins, ends, forced}
 use Rattle.book_laws.specs.Striking.{struckAll}
 use Rattle.book_laws.specs.After.{committedBy, undoneBy, abortedBy, sweptBy}
 use Rattle.book_laws.specs.Keeping.{In, Each, Runs, BookInv, anyLine, openly}
@@ -44,14 +44,6 @@ module _ (b : Book) (u x : ℕ) where
   pub open-force : openly (forced b) u x ≡ openly b u x
   unfolding openly
   open-force = refl
-
-  pub open-stage : (g : Stage) → openly (atStage b g) u x ≡ openly b u x
-  unfolding openly
-  open-stage g = refl
-
-  pub open-stop : (g : Stage) → openly (stopped g b) u x ≡ false
-  unfolding openly
-  open-stop g = refl
 
   pub open-sweep : (p m : ℕ) → openly (sweptBy b p m) u x ≡ true → openly b u x ≡ true
   open-sweep p m h = open-elim (sweptBy b p m) u x h (λ r.

@@ -14,7 +14,7 @@ use Rattle.book_laws.specs.Seen.{counted, committedOf, seen, seenCommitt
 use Rattle.book_laws.specs.Keeping.{SoundLines}
 use Rattle.book_laws.proofs.Folds.{seen-agree, after-length, after-view}
 use Rattle.book_laws.proofs.Stops.{stableLines, stop-committed, stop-counts}
-use Rattle.book_laws.proofs.Tags.{unbroken-tag, tag-unbroken}
+use Rattle.book_laws.proofs.Tags.{tag-unbroken}
 
 pub committed-of : (b : Book) → committedLines b ≡ committedOf (b .lines)
 unfolding committedLines committedOf
@@ -57,26 +57,11 @@ module _ (c d : Line → Bool) (ls ms : List Line) (same : filtered c ls ≡ fil
   pub objects-by-lines : (x : ℕ) → seen c ls x .object ≡ seen d ms x .object
   objects-by-lines x = seen-made c ls x ∙ ap (λ (k : List Line). made k x) same ∙ sym (seen-made d ms x)
 
-  pub tags-by-lines : (o f x : ℕ) → seen c ls x .tag .born ≤ seen c ls o .tag .time f → seen d ms x .tag .born ≤ seen d ms o .tag .time f
-  tags-by-lines o f x h = unbroken-tag d ms o f x (ap (λ (k : List Line). unbroken k o f x) (sym same) ∙ tag-unbroken c ls o f x h)
-
 -- a pointer is unbroken in either state where its target's tag is not younger than its word's
 module _ (b : Book) (o f x : ℕ) where
   pub committed-unbroken : seenCommitted b x .tag .born ≤ seenCommitted b o .tag .time f → unbroken (committedLines b) o f x ≡ true
   unfolding committedLines
   committed-unbroken h = tag-unbroken (countsCommitted b) (b .lines) o f x h
-
-  pub unbroken-committed : unbroken (committedLines b) o f x ≡ true → seenCommitted b x .tag .born ≤ seenCommitted b o .tag .time f
-  unfolding committedLines
-  unbroken-committed h = unbroken-tag (countsCommitted b) (b .lines) o f x h
-
-  pub full-unbroken : seenFull b x .tag .born ≤ seenFull b o .tag .time f → unbroken (fullLines b) o f x ≡ true
-  unfolding fullLines
-  full-unbroken h = tag-unbroken (countsFull b) (b .lines) o f x h
-
-  pub unbroken-full : unbroken (fullLines b) o f x ≡ true → seenFull b x .tag .born ≤ seenFull b o .tag .time f
-  unfolding fullLines
-  unbroken-full h = unbroken-tag (countsFull b) (b .lines) o f x h
 
 -- after a stop: the objects of the stable lines' committed state, and their tags' order; the full pages are the committed state
 module _ (g : Stage) (b : Book) where
@@ -86,10 +71,6 @@ module _ (g : Stage) (b : Book) where
 
   pub stop-objects : (x : ℕ) → seenCommitted (stopped g b) x .object ≡ seen (counted (stableLines b)) (stableLines b) x .object
   stop-objects x = objects-by-lines (countsCommitted (stopped g b)) (counted (stableLines b)) (surviving b) (stableLines b) same x
-
-  pub stop-tags : (o f x : ℕ) → seen (counted (stableLines b)) (stableLines b) x .tag .born ≤ seen (counted (stableLines b)) (stableLines b) o .tag .time f
-      → seenCommitted (stopped g b) x .tag .born ≤ seenCommitted (stopped g b) o .tag .time f
-  stop-tags o f x h = tags-by-lines (counted (stableLines b)) (countsCommitted (stopped g b)) (stableLines b) (surviving b) (sym same) o f x h
 
   pub stop-one : (x : ℕ) → seenFull (stopped g b) x ≡ seenCommitted (stopped g b) x
   stop-one x = seen-agree (countsFull (stopped g b)) (countsCommitted (stopped g b)) (surviving b) x (λ l j h. stop-counts g b l)

@@ -6,7 +6,7 @@ use mathlib.Core.Path.{_≡_, refl, sym, ap, _∙_}
 use mathlib.Core.Bool.{Bool, true, false, not}
 use lib.Dec.{eqb}
 use borrow.Author.Tests.{eqb-true, eqb-false, eq-eqb, ne-eqb, not-true}
-use Rattle.words.specs.Tests.{any, by-bool, clash, and-split, any-intro, any-elim}
+use Rattle.words.specs.Tests.{any, by-bool, and-split, any-intro, any-elim}
 use Rattle.book.specs.Books.{Book, runs}
 use Rattle.book.specs.Feeding.{put}
 use Rattle.book_laws.specs.Keeping.{Runs, BookInv}
@@ -67,6 +67,3 @@ module _ (b : Book) (inv : BookInv b) where
     ended-other i d = runs-same c b i
         (λ u n k. sym (stays u (still u (λ z. n (sym k ∙ z)))) ∙ k)
         (λ u n k. stays u (λ z. d (sym k ∙ ap (b .running) z)) ∙ k)
-
-    pub ended-runs : (i : ℕ) → runs c i ≡ true → (i ≡ b .running t → ⊥)
-    ended-runs i e z = clash e (ap (runs c) z ∙ ended-out)

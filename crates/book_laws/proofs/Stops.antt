@@ -9,12 +9,11 @@ use lib.Dec.{eqb}
 use Rattle.words.specs.Tests.{by-bool, clash, and-split, and-false, or-cases, or-l, or-r, or-false}
 use Rattle.records.specs.Records.{isSweep, isEnd}
 use Rattle.book.specs.Lines.{Line, hasCommit, hasEnd, filtered}
-use Rattle.book.specs.Books.{Stage, Book, countsCommitted, countsFull, committedLines, fullLines, surviving, stopped}
+use Rattle.book.specs.Books.{Stage, Book, countsCommitted, countsFull, committedLines, surviving, stopped}
 use Rattle.book_laws.specs.Seen.{counted, committedOf}
 use Rattle.book_laws.specs.Keeping.{In, here, later, anyLine}
 use Rattle.book_laws.proofs.Ends.{commits, ends, commit-any, end-any, ended-by, commit-ends}
 use Rattle.book_laws.proofs.Running.{runs-none}
-use Rattle.book_laws.proofs.Committed.{filtered-same}
 
 pub filtered-twice : (c d s : Line → Bool) (ls : List Line) → ((l : Line) → c l ≡ d l) → ((l : Line) → d l ≡ true → s l ≡ true) → filtered c (filtered s ls) ≡ filtered d ls
 unfolding filtered
@@ -64,7 +63,3 @@ stop-committed g b = survivors (stableLines b)
 -- nobody runs: the full pages are the committed state
 pub stop-counts : (g : Stage) (b : Book) (l : Line) → countsFull (stopped g b) l ≡ countsCommitted (stopped g b) l
 stop-counts g b l = rw (runs-none (stopped g b) (l .owner) (λ t. refl), and-false (not (l .struck)), or-false (countsCommitted (stopped g b) l))
-
-pub stop-full : (g : Stage) (b : Book) → fullLines (stopped g b) ≡ committedOf (stableLines b)
-unfolding fullLines committedLines
-stop-full g b = filtered-same (countsFull (stopped g b)) (countsCommitted (stopped g b)) (surviving b) (λ l i. stop-counts g b l) ∙ stop-committed g b

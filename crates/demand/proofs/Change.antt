@@ -1,16 +1,14 @@
 -- A create or a set of a running transaction: the book, the log and the invariant after it. n is the number of pages. Assumes nothing.
 use Prim.Native.Nat.{ℕ, suc, _+_, _*_, _≤_, _<_}
 use native.Mathlib.Omega.{arith}
-use native.Mathlib.Numerals.{add-one}
-use mathlib.Core.Path.{_≡_, refl, sym, ap, _∙_, subst}
+use mathlib.Core.Path.{_≡_, refl, sym, ap, _∙_}
 use mathlib.Core.Bool.{Bool, true, false}
 use mathlib.Core.List.{List, [], _∷_}
 use mathlib.Core.Logic.{inl, inr}
 use lib.ListN.{length}
 use lib.Seq.{getD-set-same, getD-set-other}
 use lib.Dec.{eqb}
-use borrow.Author.Tests.{eqb-true, eqb-false, eq-eqb, ne-eqb}
-use Rattle.words.specs.Tests.{by-bool, or-r}
+use Rattle.words.specs.Tests.{or-r}
 use Rattle.words.specs.Bits.{bit}
 use Rattle.pages.specs.Geometry as Geometry
 use Rattle.records.specs.declared.Record.{Record}

@@ -1,28 +1,22 @@
 -- What the invariant gives at each point of a list: the claim's `Holds`. n is the number of pages. Assumes nothing.
-use Prim.Native.Nat.{ℕ, zero, suc, _+_, _*_, _≤_, _<_}
+use Prim.Native.Nat.{ℕ, zero, suc, _*_, _≤_}
 use native.Mathlib.Omega.{arith}
 use mathlib.Core.Path.{_≡_, refl, sym, ap, _∙_}
-use mathlib.Core.Bool.{Bool, true, false, not, cond, _&&_, _||_}
-use mathlib.Core.List.{List, [], _∷_}
-use mathlib.Core.Logic.{_⊎_, inl, inr}
-use lib.ListN.{length}
-use lib.Dec.{eqb, ltb, leb}
-use borrow.Author.Tests.{eqb-true, eqb-false, le-leb, leb-true, not-true}
-use Rattle.words.specs.Tests.{if, by-bool, clash, and-split, if-t, if-f}
-use Rattle.words.specs.Bits.{bit}
-use Rattle.pages.specs.Geometry.{isObject, pageOf}
+use mathlib.Core.Bool.{Bool, true, false, not, _&&_}
+use lib.Dec.{eqb, leb}
+use borrow.Author.Tests.{leb-true, not-true}
+use Rattle.words.specs.Tests.{if, by-bool, clash, and-split}
+use Rattle.pages.specs.Geometry.{isObject}
 use Rattle.pages.specs.Objects.{occupied, released}
-use Rattle.records.specs.Records.{sweepOf}
 use Rattle.records.specs.Effects.{effect}
-use Rattle.areas.specs.Answers.{accepted}
 use Rattle.areas.specs.Areas.{Areas, Out, appended}
 use Rattle.areas.specs.Layout.{passPageAt, phaseAt}
-use Rattle.areas.specs.Tables.{at, isMarking}
-use Rattle.areas.specs.Entry.{pages, reopening}
-use Rattle.calls.specs.Calls.{step, restep, perform}
+use Rattle.areas.specs.Tables.{at}
+use Rattle.areas.specs.Entry.{pages}
+use Rattle.calls.specs.Calls.{step, perform}
 use Rattle.calls.specs.Pass.{callStep, freedMap, sweepMap, locked, sweptPage}
 use Rattle.acceptance.specs.Entered.{Open, opened}
-use Rattle.acceptance.specs.Pass.{step-outcome, step-way, step-facts, StepWay, scans, turns, sweeps, sweeping, sweepMapOf, scanning, turning}
+use Rattle.acceptance.specs.Pass.{step-outcome, step-way, step-facts, StepWay, scans, turns, sweeps, sweeping}
 use Rattle.book.specs.Books as Books
 use Rattle.book.specs.Books.{Book, committedLines, fullLines, committedPages, fullPages, countsFull, storing}
 use Rattle.book.specs.Demand.{Point, Holds, Spares, Reopens, accepts, reclaims}
@@ -34,18 +28,12 @@ use Rattle.collector.specs.State as M
 use Rattle.collector.specs.Claim as Claim
 use Rattle.collector.specs.Calls as C
 use Rattle.collector.proofs.Safety.{sound}
-use Rattle.collector.proofs.Objects.{blank-occ}
-use Rattle.views.specs.View.{view}
 use Rattle.recovery.proofs.Reversal.{view-occ}
-use Rattle.shown.specs.Tables.{phaseOf, locksOf, tablesOf, passOf}
+use Rattle.shown.specs.Tables.{phaseOf}
 use Rattle.shown_pass.proofs.Sweep.{deadAt, swept-view}
 use Rattle.book_laws.specs.Seen.{committedOf, seenCommitted, seenFull}
-use Rattle.demand.proofs.State.{machine, OpenInv, Inv3}
+use Rattle.demand.proofs.State.{machine, OpenInv}
 use Rattle.demand.proofs.Pointing.{leads-out}
-
--- an accepted call has n pages
-pub open-pages : (s : Areas) (n : ℕ) → Open s n → pages s ≡ n
-open-pages s n o = o .sized .count
 
 -- what a step that cleared an object's slot was
 pub record Swept (n : ℕ) (s : Areas) (o : ℕ) : Type 0 where

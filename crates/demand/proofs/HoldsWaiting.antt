@@ -1,31 +1,26 @@
 -- What the invariant gives between a cut, or an accepted reopen, and the last reopening step. n is the number of pages. Assumes nothing.
-use Prim.Native.Nat.{ℕ, zero, suc, _+_, _*_, _≤_, _<_}
+use Prim.Native.Nat.{ℕ, _*_, _≤_}
 use native.Mathlib.Omega.{arith}
 use mathlib.Core.Path.{_≡_, refl, sym, ap, _∙_}
-use mathlib.Core.Bool.{Bool, true, false, not, cond, _&&_, _||_}
-use mathlib.Core.List.{List, [], _∷_}
+use mathlib.Core.Bool.{true, false, not}
 use lib.ListN.{length}
 use lib.Seq.{ext-getD}
-use lib.Dec.{eqb, ltb, leb}
 use borrow.Author.Tests.{le-ltb}
-use Rattle.words.specs.Tests.{if, by-bool, clash, and-false, or-false}
+use Rattle.words.specs.Tests.{and-false, or-false}
 use Rattle.areas.specs.Answers.{accepted}
 use Rattle.areas.specs.Areas.{Areas, Out}
 use Rattle.areas.specs.Layout.{reopeningPageAt}
 use Rattle.areas.specs.Tables.{at}
-use Rattle.areas.specs.Entry.{pages, reopening}
-use Rattle.calls.specs.Calls.{step, restep, perform}
-use Rattle.calls.specs.Pass.{callStep}
-use Rattle.calls.specs.Reopening.{callRestep, reopeningOver, pageStored}
-use Rattle.acceptance.specs.Entered.{Entered, Open, opened, entered}
+use Rattle.areas.specs.Entry.{reopening}
+use Rattle.calls.specs.Calls.{step, perform}
+use Rattle.calls.specs.Reopening.{callRestep, reopeningOver}
+use Rattle.acceptance.specs.Entered.{Entered, opened, entered}
 use Rattle.acceptance.specs.Pass.{step-outcome}
 use Rattle.acceptance.specs.Reopening.{restep-outcome, restepped}
-use Rattle.book.specs.Lines.{Line, filtered, pagesAfter}
 use Rattle.book.specs.Books as Books
-use Rattle.book.specs.Books.{Book, Stage, storing, runs, committedLines, fullLines, committedPages, fullPages, countsFull, countsCommitted}
-use Rattle.book.specs.Demand.{Point, Holds, Spares, Reopens, accepts, reclaims}
+use Rattle.book.specs.Books.{Book, storing, committedLines, fullLines, committedPages, fullPages, countsFull, countsCommitted}
+use Rattle.book.specs.Demand.{Holds, Spares, Reopens}
 use Rattle.book.specs.Pointers.{Leads}
-use Rattle.book_laws.specs.Keeping.{In, Each}
 use Rattle.book_laws.proofs.Folds.{after-length}
 use Rattle.book_laws.proofs.Running.{runs-none}
 use Rattle.book_laws.proofs.Committed.{filtered-same}

@@ -1,11 +1,7 @@
 -- A call that appends no record and stores nothing: the log's part of the invariant after it. n is the number of pages. Assumes nothing.
-use Prim.Native.Nat.{ℕ, _*_, _-_, _≤_, _<_}
-use mathlib.Core.Path.{_≡_, refl, sym, ap, _∙_}
-use mathlib.Core.List.{List}
-use lib.ListN.{length, take}
-use Rattle.words.specs.Bits.{bit}
-use Rattle.records.specs.Order.{openIn}
-use Rattle.areas.specs.Areas.{Areas, receivedCount, stableCount}
+use Prim.Native.Nat.{ℕ, _-_}
+use mathlib.Core.Path.{_≡_, sym, _∙_}
+use Rattle.areas.specs.Areas.{Areas}
 use Rattle.book.specs.Books.{Book}
 use Rattle.collector.specs.Objects.{Obj}
 use Rattle.views.specs.View.{view}

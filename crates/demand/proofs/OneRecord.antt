@@ -3,8 +3,8 @@ use Prim.Native.Nat.{ℕ, zero, suc, _+_, _*_, _-_, _≤_, _<_}
 use native.Mathlib.Omega.{arith}
 use native.Mathlib.Numerals.{add-one}
 use mathlib.Core.Path.{_≡_, refl, sym, ap, _∙_}
-use mathlib.Core.Bool.{Bool, true, false, _||_}
-use mathlib.Core.List.{List, [], _∷_}
+use mathlib.Core.Bool.{true}
+use mathlib.Core.List.{List, _∷_}
 use lib.ListN.{length, take, drop}
 use Rattle.words.specs.Bits.{bit}
 use Rattle.records.specs.declared.Record.{Record}
@@ -14,7 +14,7 @@ use Rattle.records.specs.Soundness.{recordSound}
 use Rattle.records.specs.Order.{openIn, inOrder, logSound}
 use Rattle.areas.specs.Areas.{Areas, receivedCount, stableCount}
 use Rattle.book.specs.Lines.{Line, pagesAfter}
-use Rattle.book.specs.Books.{Book, committedLines, committedPages, countsCommitted}
+use Rattle.book.specs.Books.{Book}
 use Rattle.book.specs.Pointers.{Leads}
 use Rattle.collector.specs.Objects.{Obj}
 use Rattle.collector.proofs.Invariant as Collector
@@ -26,7 +26,7 @@ use Rattle.recovery.specs.Shapes.{shapes, recs}
 use Rattle.recovery.proofs.Appending.{recs-same, recs-more, log-more}
 use Rattle.recovery.proofs.Decided.{SameCells}
 use Rattle.recovery.proofs.Invariant as Recovery
-use Rattle.book_laws.specs.Seen.{counted, committedOf, seen, seenCommitted}
+use Rattle.book_laws.specs.Seen.{counted, committedOf, seen}
 use Rattle.book_laws.specs.Striking.{entries}
 use Rattle.book_laws.specs.Keeping.{SoundLines}
 use Rattle.demand.proofs.State.{machine, received, stable, logged, LogInv}

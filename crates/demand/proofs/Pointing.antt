@@ -1,31 +1,29 @@
 -- Reaching and leading in the claim's words, and in the machine's: the same for the pages that lines show. n is the number of pages.
 -- Assumes nothing.
-use Prim.Native.Nat.{ℕ, zero, suc, _+_, _*_, _≤_, _<_}
+use Prim.Native.Nat.{ℕ, suc, _*_, _≤_, _<_}
 use native.Mathlib.Omega.{arith}
 use mathlib.Core.Path.{_≡_, refl, sym, ap, _∙_}
-use mathlib.Core.Bool.{Bool, true, false, not, cond, _&&_, _||_}
+use mathlib.Core.Bool.{Bool, true, _||_}
 use mathlib.Core.List.{List, [], _∷_}
-use mathlib.Core.Logic.{_⊎_, inl, inr}
 use lib.ListN.{length}
-use lib.Dec.{eqb, ltb, leb}
-use borrow.Author.Tests.{eqb-true, eqb-false, eq-eqb, ne-eqb, ltb-true, not-true}
-use Rattle.words.specs.Tests.{if, by-bool, clash}
+use lib.Dec.{eqb}
+use borrow.Author.Tests.{eqb-true, ltb-true}
+use Rattle.words.specs.Tests.{by-bool}
 use Rattle.pages.specs.Geometry.{isRef, isRefAt}
 use Rattle.pages.specs.Objects.{occupied, wordOf}
 use Rattle.records.specs.declared.Record.{Record}
-use Rattle.records.specs.Soundness.{recordSound}
 use Rattle.book.specs.Lines.{Line, filtered, pagesAfter}
 use Rattle.book.specs.Pointers.{Refers, Reached, root, next, Leads}
-use Rattle.collector.specs.Bits.{_and_, anyb, anyb-elim, and-l, and-r}
+use Rattle.collector.specs.Bits.{_and_, anyb-elim, and-l, and-r}
 use Rattle.collector.specs.Objects as O
 use Rattle.collector.specs.Objects.{Obj, Tag, points, Reach, edge, Whole}
 use Rattle.collector.specs.Claim as Claim
-use Rattle.collector.proofs.Objects.{points-some, points-occ, word-edge, ref-field}
+use Rattle.collector.proofs.Objects.{points-some, word-edge}
 use Rattle.views.specs.View.{view, applied, names}
 use Rattle.views.proofs.Sound.{SoundRecord, sound-record}
 use Rattle.recovery.proofs.Reversal.{view-occ, view-word}
-use Rattle.book_laws.specs.Seen.{seen, first, acted}
-use Rattle.book_laws.specs.Keeping.{In, here, later, SoundLines}
+use Rattle.book_laws.specs.Seen.{seen, first}
+use Rattle.book_laws.specs.Keeping.{here, later, SoundLines}
 use Rattle.book_laws.proofs.Folds.{after-view}
 use Rattle.book_laws.proofs.Tags.{born-old, unbroken-tag, tag-unbroken}
 

@@ -2,26 +2,23 @@
 -- number of pages. Assumes nothing.
 use Prim.Native.Nat.{ℕ, zero, suc, _*_, _≤_, _<_}
 use native.Mathlib.Omega.{arith}
-use mathlib.Core.Path.{_≡_, refl, _∙_}
-use mathlib.Core.Bool.{Bool, true, false, _&&_}
+use mathlib.Core.Path.{_≡_, _∙_}
+use mathlib.Core.Bool.{false, _&&_}
 use mathlib.Core.List.{List}
 use lib.ListN.{length}
 use lib.Dec.{eqb, ltb}
 use borrow.Author.Tests.{eqb-true, eqb-false, lt-ltb, le-ltb, ltb-true, ltb-false}
 use Rattle.words.specs.Tests.{if, by-bool}
 use Rattle.pages.specs.Geometry as Geometry
-use Rattle.pages.specs.Objects.{copiedPage}
 use Rattle.page_laws.specs.ViewLaws.{length-copied}
 use Rattle.demand.proofs.Copying.{copied-view}
 use Rattle.areas.specs.Tables.{canWrite}
 use Rattle.calls.specs.Transactions.{restored}
 use Rattle.collector.specs.Bits.{_and_}
-use Rattle.collector.specs.Objects.{Obj, pageOf}
+use Rattle.collector.specs.Objects.{pageOf}
 use Rattle.collector.specs.State.{mix}
 use Rattle.views.specs.View.{view}
-use Rattle.views.proofs.Effects.{obj-ext, view-by}
 use Rattle.shown.specs.Tables.{locksOf, pageBit}
-use Rattle.shown.proofs.Areas.{view-here}
 
 -- below k or below k + 1: the same but for k
 below-next : (q k : ℕ) → eqb q k ≡ false → ltb q (suc k) ≡ ltb q k

@@ -1,25 +1,22 @@
 -- The store and its book read as the collector's state and as the log's, and the invariant over both. n is the number of pages.
 -- Assumes nothing.
-use Prim.Native.Nat.{ℕ, zero, suc, _+_, _*_, _-_, _≤_, _<_}
+use Prim.Native.Nat.{ℕ, suc, _+_, _*_, _-_, _≤_, _<_}
 use mathlib.Core.Path.{_≡_}
-use mathlib.Core.Bool.{Bool, true, false, not, _&&_}
-use mathlib.Core.List.{List, [], _∷_}
-use mathlib.Core.Logic.{_⊎_}
+use mathlib.Core.Bool.{true, false}
+use mathlib.Core.List.{List}
 use lib.ListN.{length, take, drop}
-use lib.Dec.{eqb}
 use Rattle.words.specs.Bits.{bit}
 use Rattle.records.specs.declared.Record.{Record}
 use Rattle.records.specs.Order.{openIn, logSound}
-use Rattle.records.specs.Recovery.{recovered}
 use Rattle.areas.specs.Areas.{Areas, receivedCount, stableCount}
 use Rattle.areas.specs.Layout.{reopeningPageAt}
 use Rattle.areas.specs.Tables.{at}
 use Rattle.areas.specs.Entry.{pages, reopening}
-use Rattle.book.specs.Lines.{Line, pagesAfter}
-use Rattle.book.specs.Books.{Stage, opened, awaiting, storing, Book, committedLines, committedPages, fullPages}
+use Rattle.book.specs.Lines.{pagesAfter}
+use Rattle.book.specs.Books.{opened, awaiting, storing, Book, committedLines, committedPages, fullPages}
 use Rattle.book.specs.Pointers.{Leads}
-use Rattle.collector.specs.Objects.{Obj, Tag, Whole}
-use Rattle.collector.specs.State.{St, Locks}
+use Rattle.collector.specs.Objects.{Obj, Whole}
+use Rattle.collector.specs.State.{St}
 use Rattle.collector.proofs.Invariant as Collector
 use Rattle.views.specs.View.{view}
 use Rattle.shown.specs.Tables.{locksOf, tablesOf, passOf}

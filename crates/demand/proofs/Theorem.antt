@@ -1,21 +1,19 @@
 -- Demand 3: the invariant holds at every point of every list, and gives the claim. Assumes nothing.
 use Prim.Native.Nat.{ℕ, _≤_}
 use native.Mathlib.Omega.{arith}
-use mathlib.Core.Path.{_≡_, refl, sym, ap, _∙_}
-use mathlib.Core.Bool.{Bool, true, false}
+use mathlib.Core.Path.{_≡_, refl}
+use mathlib.Core.Bool.{true, false}
 use mathlib.Core.List.{List, [], _∷_}
-use Rattle.words.specs.Tests.{if, by-bool}
+use Rattle.words.specs.Tests.{by-bool}
 use Rattle.areas.specs.Answers.{accepted}
 use Rattle.areas.specs.Areas.{Areas}
-use Rattle.areas.specs.Entry.{reopening}
-use Rattle.calls.specs.Formatting.{formatted, cut}
 use Rattle.calls.specs.Calls.{Call, perform}
 use Rattle.calls.specs.Calls.Call.{begin, commit, abort, lockRead, lockWrite, read, create, setWord, flush, force, store, empty, pass, step, reopen, restep}
 use Rattle.acceptance.specs.Calls.{refused-keeps}
-use Rattle.book.specs.Books.{Book, blank, stopped, awaiting}
+use Rattle.book.specs.Books.{Book}
 use Rattle.book.specs.Feeding.{fed}
 use Rattle.book.specs.Demand.{Event, call, power, Point, accepts, after, start, Holds, Throughout, last, then, Demand3}
-use Rattle.demand.proofs.State.{OpenInv, AwaitInv, StoringInv, Inv3, open-store, cut-store, reopening-store}
+use Rattle.demand.proofs.State.{OpenInv, Inv3, open-store, cut-store, reopening-store}
 use Rattle.demand.proofs.Finished.{reopens, accepted-open}
 use Rattle.demand.proofs.Holds.{open-holds}
 use Rattle.demand.proofs.HoldsWaiting.{await-holds, storing-holds}

@@ -1,7 +1,7 @@
 -- Refusal 1 besides the lengths, of the lists that it reads. Assumes nothing.
 use Prim.Native.Nat.{ℕ}
 use mathlib.Core.Path.{_≡_, refl}
-use mathlib.Core.Bool.{Bool, true, false, _&&_}
+use mathlib.Core.Bool.{Bool, true, false}
 use mathlib.Core.List.{List, []}
 use lib.ListN.{getD}
 use Rattle.pages.specs.Soundness.{areaSound}

@@ -1,16 +1,15 @@
 -- Document 01, 'Agreement': 'The fourteen examples of the refusal table, each on the bench store unless it says otherwise and after the begins
 -- and locks it needs, and the bench input stand in a table proved by a single statement over it'. Assumes nothing.
-use Prim.Native.Nat.{ℕ, zero, suc, _+_, _*_}
-use Prim.Native.String.{String}
+use Prim.Native.Nat.{ℕ}
 use mathlib.Core.Path.{_≡_, refl}
 use mathlib.Core.Bool.{Bool, true, false, _&&_}
 use mathlib.Core.List.{List, [], _∷_}
 use lib.ListN.{set, take, replicate}
 use lib.Dec.{eqb}
 use Rattle.areas.specs.Answers.{answerOf, valueOf, accepted}
-use Rattle.areas.specs.Areas.{Areas, Out, areas}
+use Rattle.areas.specs.Areas.{Areas, areas}
 use Rattle.calls.specs.Formatting.{formatted}
-use Rattle.calls.specs.Calls.{Call, begin, commit, abort, lockRead, lockWrite, read, create, setWord, flush, force, store, empty, pass, step, reopen, restep, perform}
+use Rattle.calls.specs.Calls.{Call, begin, commit, lockWrite, read, create, setWord, flush, store, empty, reopen, perform}
 use Rattle.bench_lines.specs.Text.{bytes}
 use Rattle.bench_run.specs.Bench.{benchStore, benchOutput}
 use Rattle.words.specs.Bits.{withBit, withoutBit, mapOf, slotsSet}

@@ -1,16 +1,11 @@
 -- What formatting makes of each area, by its length, and that these together are the formatted store. Assumes nothing.
-use Prim.Native.Nat.{ℕ, _+_, _*_}
+use Prim.Native.Nat.{ℕ, _*_}
 use mathlib.Core.Path.{_≡_, refl, sym, ap, _∙_}
 use mathlib.Core.Bool.{true, false}
 use mathlib.Core.List.{List}
-use lib.ListN.{length, getD, set, replicate, length-replicate, getD-replicate}
-use lib.Seq.{ext-getD}
-use native.Mathlib.Nat.{zero-add}
-use native.Mathlib.Omega.{arith}
-use Rattle.words.specs.Spans.{fill, fill-inside, length-fill}
+use lib.ListN.{length, set, replicate}
 use Rattle.pages.specs.Geometry.{root}
 use Rattle.pages.specs.Objects.{occupy, formattedPages}
-use Rattle.page_laws.specs.Runs.{fill-turn}
 use Rattle.areas.specs.declared.Refusal.the-variants.{Malformed}
 use Rattle.areas.specs.declared.Answer.the-variants.{Done, Refused}
 use Rattle.areas.specs.Answers.{need-holds, need-fails}

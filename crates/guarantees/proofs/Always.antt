@@ -7,20 +7,19 @@ use mathlib.Core.List.{List, [], _∷_, _++_}
 use lib.ListN.{length, set, take, drop, replicate, length-set, length-replicate}
 use lib.Seq.{getD-set-same, getD-set-other}
 use lib.Dec.{eqb, ltb}
-use borrow.Author.Tests.{ltb-true, eqb-false, ne-eqb, eqb-true}
-use Rattle.words.specs.Tests.{if, by-bool}
-use Rattle.pages.specs.Geometry.{objectAt, pageOf, slotOf, root, pageWords}
-use Rattle.pages.specs.Objects.{slotWord, wordOf, copiedPage, formattedPages}
+use borrow.Author.Tests.{ltb-true, eqb-false, ne-eqb}
+use Rattle.words.specs.Tests.{by-bool}
+use Rattle.pages.specs.Geometry.{objectAt, pageOf, slotOf, root}
+use Rattle.pages.specs.Objects.{slotWord, wordOf, formattedPages}
 use Rattle.pages.specs.Soundness.{areaSound}
 use Rattle.page_laws.specs.SoundFacts.{facts-sound, copied-sound}
 use Rattle.page_laws.specs.ViewLaws.{length-copied}
 use Rattle.record_laws.specs.RecordLaws.{log-sound-records}
 use Rattle.record_laws.specs.EffectLaws.{length-recovered}
-use Rattle.records.specs.Recovery.{recovered}
 use Rattle.areas.specs.declared.Check.{Check}
 use Rattle.areas.specs.declared.Check.the-variants.{Pass}
 use Rattle.areas.specs.Answers.{accepted}
-use Rattle.areas.specs.Areas.{Areas, Out, receivedCount, stableCount, withWork, withStored}
+use Rattle.areas.specs.Areas.{Areas, Out, receivedCount, stableCount}
 use Rattle.areas.specs.Layout.{reopeningPageAt, phaseAt, passPageAt, workWords}
 use Rattle.areas.specs.Tables.{at}
 use Rattle.areas.specs.Entry.{pages, records, reopening, readiness}
@@ -29,7 +28,6 @@ use Rattle.calls.specs.Calls.Call.{begin, commit, abort, lockRead, lockWrite, r
 use Rattle.calls.specs.Formatting.{formatted, cut}
 use Rattle.calls.specs.Pass.{advanced, freedMap, sweepMap, locked, sweepCheck, lowestGrey, callStep}
 use Rattle.calls.specs.Reopening.{callReopen, reopened, pageStored, reopeningOver, callRestep}
-use Rattle.calls.specs.Stability.{emptied}
 use Rattle.acceptance.specs.Calls.{refused-keeps}
 use Rattle.acceptance.specs.Entered.{Open, opened}
 use Rattle.acceptance.specs.Lengths.{Sized}
@@ -41,11 +39,10 @@ use Rattle.acceptance.specs.Objects.{read-outcome, read-facts, create-outcome, 
 use Rattle.acceptance.specs.Stability.{force-outcome, store-outcome, store-facts, empty-outcome}
 use Rattle.acceptance.specs.Pass.{pass-outcome, step-outcome, step-facts, step-way, StepWay, scans, turns, sweeps, sweepMapOf, sweeping, sweep-facts, stepped}
 use Rattle.acceptance.specs.Room.{Room}
-use Rattle.acceptance.specs.Reopening.{reopen-ran, ReopenFacts, reopen-facts, restepped, restep-outcome, restep-facts}
+use Rattle.acceptance.specs.Reopening.{reopen-ran, ReopenFacts, reopen-facts, restep-outcome, restep-facts}
 use Rattle.book.specs.Lines.{pagesAfter, filtered}
-use Rattle.book.specs.Books as Books
 use Rattle.book.specs.Books.{Book, blank, awaiting, storing, committedLines, committedPages, stopped}
-use Rattle.book.specs.Feeding.{fed, atStage}
+use Rattle.book.specs.Feeding.{fed}
 use Rattle.book.specs.Demand.{Event, call, power, Point, accepts, after, start}
 use Rattle.collector.specs.Objects as O
 use Rattle.collector.specs.State as M
@@ -57,9 +54,8 @@ use Rattle.recovery.proofs.Maps.{small-formatted}
 use Rattle.recovery.proofs.Reversal.{view-occ, view-word}
 use Rattle.book_laws.specs.Seen.{first, committedOf}
 use Rattle.book_laws.proofs.Folds.{formatted-length, formatted-view}
-use Rattle.book_laws.proofs.Pages.{committed-of}
 use Rattle.book_laws.proofs.Sweeps.{sweep-kept}
-use Rattle.demand.proofs.State.{OpenInv, AwaitInv, StoringInv, Inv3, open-store, cut-store, reopening-store}
+use Rattle.demand.proofs.State.{OpenInv, StoringInv, Inv3, open-store, cut-store, reopening-store}
 use Rattle.demand.proofs.Finished.{reopens, accepted-open}
 use Rattle.demand.proofs.Begin.{open-begin}
 use Rattle.demand.proofs.Commit.{open-commit}
@@ -74,12 +70,12 @@ use Rattle.demand.proofs.Passing.{open-pass, open-step}
 use Rattle.demand.proofs.Holds.{sweeping-phase}
 use Rattle.demand.proofs.HoldsWaiting.{step-entered}
 use Rattle.demand.proofs.Sweep.{open-sweep, lines-fed}
-use Rattle.demand.proofs.Cut.{zeros, zero-at, cut-kept}
+use Rattle.demand.proofs.Cut.{zeros, zero-at}
 use Rattle.demand.proofs.Reopen.{reopen-kept}
 use Rattle.demand.proofs.Restep.{restep-kept}
 use Rattle.demand.proofs.Start.{start-inv}
 use Rattle.demand.proofs.Theorem.{keep}
-use Rattle.guarantees.proofs.Tables.{Within, working-within, set-within, word, reopening-page, read-locked-within, write-locked-within, learned-within, started-within, scanning-within, turning-within, advanced-within, clear-within}
+use Rattle.guarantees.proofs.Tables.{Within, set-within, word, reopening-page, read-locked-within, write-locked-within, learned-within, started-within, scanning-within, turning-within, advanced-within, clear-within}
 use Rattle.guarantees.proofs.Sound.{Firm, firm-stop}
 use Rattle.guarantees.proofs.Fine.{Fine, resized, in-range, open-fine, held-none, quiet-fine}
 use Rattle.guarantees.proofs.Keeps.{within, begun-fine, created-fine, set-fine, committed-fine, aborted-fine, flushed-fine, stored-fine, forced-fine, emptied-fine, swept-fine}

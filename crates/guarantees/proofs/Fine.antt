@@ -2,14 +2,13 @@
 use Prim.Native.Nat.{ℕ, zero, suc, _+_, _*_, _≤_, _<_}
 use native.Mathlib.Omega.{arith}
 use mathlib.Core.Path.{_≡_, refl, sym, ap, _∙_}
-use mathlib.Core.Bool.{Bool, true, false}
-use mathlib.Core.List.{List, [], _∷_}
-use lib.ListN.{length, set, length-set}
-use lib.Seq.{getD-set-same, getD-set-other}
-use lib.Dec.{ltb}
+use mathlib.Core.Bool.{true}
+use mathlib.Core.List.{List}
+use lib.ListN.{length, length-set}
+use lib.Seq.{getD-set-same}
 use borrow.Author.Tests.{le-leb, lt-ltb}
-use Rattle.words.specs.Tests.{if, sum, by-bool}
-use Rattle.words.specs.Bits.{bit, bit-none}
+use Rattle.words.specs.Tests.{sum}
+use Rattle.words.specs.Bits.{bit-none}
 use Rattle.pages.specs.Soundness.{areaSound}
 use Rattle.records.specs.declared.Record.{Record}
 use Rattle.records.specs.Records.{recorded}
@@ -23,12 +22,11 @@ use Rattle.areas.specs.Areas.{Areas, receivedCount, stableCount, withWork, appe
 use Rattle.areas.specs.Layout.{activeAt}
 use Rattle.areas.specs.Tables.{at, has}
 use Rattle.areas.specs.Ranges.{pagesIn, recordsIn, countsInRange, inRange}
-use Rattle.areas.specs.Entry.{pages, records, reopening}
+use Rattle.areas.specs.Entry.{records, reopening}
 use Rattle.acceptance.specs.Lengths.{Sized}
 use Rattle.acceptance.specs.Entered.{Open}
 use Rattle.book.specs.Books.{Book}
 use Rattle.collector.specs.Bits.{_and_, true-and}
-use Rattle.shown.specs.Tables.{locksOf}
 use Rattle.demand.proofs.State.{OpenInv}
 use Rattle.guarantees.proofs.Tables.{Within, within-rows}
 use Rattle.guarantees.proofs.Reserve.{share, held}

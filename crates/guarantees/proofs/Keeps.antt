@@ -2,47 +2,41 @@
 use Prim.Native.Nat.{ℕ, zero, suc, _+_, _*_, _≤_, _<_}
 use native.Mathlib.Omega.{arith}
 use mathlib.Core.Path.{_≡_, refl, sym, ap, _∙_}
-use mathlib.Core.Bool.{Bool, true, false, _&&_}
-use mathlib.Core.List.{List, [], _∷_}
+use mathlib.Core.Bool.{true, false}
+use mathlib.Core.List.{List, []}
 use mathlib.Core.Logic.{_⊎_, inl, inr}
 use lib.ListN.{length, set, length-set}
 use lib.Seq.{getD-set-same, getD-set-other}
-use lib.Dec.{eqb, leb}
-use borrow.Author.Tests.{lt-ltb, eq-eqb, ne-eqb, eqb-false, eqb-true}
-use Rattle.words.specs.Tests.{if, by-bool, clash, and-split}
+use lib.Dec.{eqb}
+use borrow.Author.Tests.{eq-eqb, eqb-false, eqb-true}
+use Rattle.words.specs.Tests.{by-bool, clash}
 use Rattle.words.specs.Bits.{bit}
-use Rattle.pages.specs.Geometry.{pageOf, slotOf, root, isRefAt}
-use Rattle.pages.specs.Objects.{occupied, wordOf, released, copiedPage}
+use Rattle.pages.specs.Geometry.{pageOf, isRefAt}
+use Rattle.pages.specs.Objects.{occupied, wordOf, copiedPage}
 use Rattle.pages.specs.Soundness.{areaSound}
 use Rattle.page_laws.specs.SoundFacts.{occupy-sound, written-sound, released-sound, copied-sound}
 use Rattle.page_laws.specs.ViewLaws.{length-copied}
 use Rattle.page_laws.specs.Places.{length-released-in}
 use Rattle.records.specs.declared.Record.{Record}
-use Rattle.records.specs.Records.{recordAt, recorded, beginOf, commitOf, abortedOf, createOf, setOf, sweepOf, isBegin}
+use Rattle.records.specs.Records.{recorded, beginOf, commitOf, abortedOf, createOf, setOf, sweepOf}
 use Rattle.records.specs.Changes.{changesLeft}
 use Rattle.records.specs.Effects.{effect}
 use Rattle.records.specs.Soundness.{recordSound}
 use Rattle.records.specs.Order.{openIn}
 use Rattle.record_laws.specs.RecordLaws.{log-sound-records, records-sound-at, recorded-same, recorded-length}
-use Rattle.areas.specs.declared.Check.{Check}
-use Rattle.areas.specs.declared.Check.the-variants.{Pass}
-use Rattle.areas.specs.Answers.{accepted}
-use Rattle.areas.specs.Areas.{Areas, Out, receivedCount, stableCount, withWork, withCopies, withStored, withCounts, appended}
-use Rattle.areas.specs.Layout.{unflushedAt, phaseAt, passPageAt, activeAt}
-use Rattle.areas.specs.Tables.{at, lose, canWrite}
-use Rattle.areas.specs.Entry.{pages, records, reopening, readiness}
-use Rattle.calls.specs.Locks.{readLocked, writeLocked}
-use Rattle.calls.specs.Objects.{learned, created, wordSet, flushed}
-use Rattle.calls.specs.Pass.{passStarted, sweptPage, freedMap, sweepMap, locked, advanced}
+use Rattle.areas.specs.Areas.{Areas, receivedCount, stableCount, withWork, withStored, withCounts, appended}
+use Rattle.areas.specs.Layout.{unflushedAt, activeAt}
+use Rattle.areas.specs.Tables.{at, canWrite}
+use Rattle.areas.specs.Entry.{records}
+use Rattle.calls.specs.Objects.{created, wordSet, flushed}
+use Rattle.calls.specs.Pass.{sweptPage}
 use Rattle.calls.specs.Stability.{emptied}
-use Rattle.calls.specs.Transactions.{begun, committed, rolledBack, restored, aborted, changesOf, endedTables}
-use Rattle.acceptance.specs.Entered.{Open, opened}
-use Rattle.acceptance.specs.Ran.{Outcome}
+use Rattle.calls.specs.Transactions.{begun, committed, rolledBack, restored, aborted, changesOf}
+use Rattle.acceptance.specs.Entered.{Open}
 use Rattle.acceptance.specs.Room.{Room}
 use Rattle.acceptance.specs.Transactions.{BeginFacts, CommitFacts, AbortFacts}
-use Rattle.acceptance.specs.Objects.{CreateFacts, SetFacts, FlushFacts, known-facts}
-use Rattle.acceptance.specs.Stability.{ForceFacts, StoreFacts, EmptyFacts}
-use Rattle.book.specs.Lines.{Line, line, left, hasCommit, pagesAfter}
+use Rattle.acceptance.specs.Objects.{CreateFacts, SetFacts, known-facts}
+use Rattle.book.specs.Lines.{line, left, hasCommit, pagesAfter}
 use Rattle.book.specs.Books.{Book, countsCommitted, countsFull, committedLines, fullLines, committedPages, fullPages}
 use Rattle.book.specs.Feeding.{adds, learns, begins}
 use Rattle.collector.proofs.Known.{known-there}
@@ -69,10 +63,10 @@ use Rattle.demand.proofs.State.{machine, OpenInv}
 use Rattle.demand.proofs.Change.{machine-shows, full-shown}
 use Rattle.demand.proofs.Shared.{small-after}
 use Rattle.demand.proofs.Restored.{length-restored}
-use Rattle.guarantees.proofs.Tables.{Within, working-within, begun-within, ended-within, created-within, set-tables-within, lose-within, advanced-within}
-use Rattle.guarantees.proofs.Reserve.{share, held, Others, held-but, others-more, held-begin, held-change, held-sweep, ended-share, More, one-more, rolled-more}
+use Rattle.guarantees.proofs.Tables.{Within, working-within, begun-within, ended-within, created-within, set-tables-within, lose-within}
+use Rattle.guarantees.proofs.Reserve.{share, held, held-but, others-more, held-begin, held-change, held-sweep, ended-share, one-more, rolled-more}
 use Rattle.guarantees.proofs.Sound.{either-sound, Firm, firm-more, firm-idle, firm-many, swept-lines}
-use Rattle.guarantees.proofs.Fine.{Fine, resized, open-fine, held-none, reserved-held, quiet-fine, added-fine}
+use Rattle.guarantees.proofs.Fine.{Fine, resized, open-fine, held-none, reserved-held, added-fine}
 
 -- an appended record leaves the stored pages; one that ends t leaves it no share
 appended-stored : (a : Areas) (r : Record) → appended a r .stored ≡ a .stored

@@ -1,14 +1,13 @@
 -- No call is refused with 14, no end with 11, and no call with 1 but for its own buffers. n is the number of pages. Assumes nothing.
-use Prim.Native.Nat.{ℕ, _+_, _*_, _≤_, _<_}
+use Prim.Native.Nat.{ℕ, _+_, _*_, _≤_}
 use native.Mathlib.Omega.{arith}
 use mathlib.Core.Path.{_≡_, refl, sym, ap, _∙_}
 use mathlib.Core.Bool.{Bool, true, false, not, _&&_, _||_}
 use mathlib.Core.List.{List, [], _∷_}
-use mathlib.Core.Logic.{_⊎_, inl, inr}
 use lib.ListN.{length, getD}
 use lib.Dec.{eqb, leb, ltb}
-use borrow.Author.Tests.{le-leb, eq-eqb, eqb-true, eqb-false, ltb-true}
-use Rattle.words.specs.Tests.{if, all, by-bool, and-split, clash, all-intro, all-at, if-t, if-f}
+use borrow.Author.Tests.{le-leb, eq-eqb, eqb-false, ltb-true}
+use Rattle.words.specs.Tests.{if, all, by-bool, and-split, all-intro, all-at}
 use Rattle.words.specs.Bits.{bit}
 use Rattle.words.specs.Spans.{same}
 use Rattle.pages.specs.Geometry.{root, pageOf, isObject}
@@ -19,9 +18,7 @@ use Rattle.records.specs.Naming.{lastNaming}
 use Rattle.records.specs.Order.{openIn}
 use Rattle.records.specs.Recovery.{recovered, recoverable}
 use Rattle.areas.specs.declared.Refusal.{Refusal}
-use Rattle.areas.specs.declared.Refusal.the-variants.{Malformed, NotOpen, OutOfRange, WrongState, NotLocked, Held, Unknown, Occupied, Differs, Unflushed, LogFull, Unstable, InUse, Unsound}
-use Rattle.areas.specs.declared.Answer.{Answer}
-use Rattle.areas.specs.declared.Answer.the-variants.{Done, Refused}
+use Rattle.areas.specs.declared.Refusal.the-variants.{OutOfRange, WrongState, NotLocked, Held, Unknown, Occupied, Differs, Unflushed, LogFull, Unstable, InUse, Unsound}
 use Rattle.areas.specs.declared.Check.{Check}
 use Rattle.areas.specs.declared.Check.the-variants.{Pass, Refuse}
 use Rattle.areas.specs.declared.Ready.{Ready}
@@ -30,7 +27,7 @@ use Rattle.areas.specs.Answers.{accepted, need, numberOf, answerOf}
 use Rattle.areas.specs.Areas.{Areas, Out, receivedCount, stableCount, done, checked}
 use Rattle.areas.specs.Layout.{activeAt, readersAt, writersAt}
 use Rattle.areas.specs.Tables.{at, isTxn, isActive, canRead, canWrite, knows, passRuns, isMarking}
-use Rattle.areas.specs.Ranges.{fit, lengthsFit, inRange}
+use Rattle.areas.specs.Ranges.{fit, lengthsFit}
 use Rattle.areas.specs.Entry.{pages, records, reopening, wellFormed, readiness, entering}
 use Rattle.calls.specs.Locks.{noOther, lockReadCheck, callLockRead, lockWriteCheck, callLockWrite}
 use Rattle.calls.specs.Objects.{readCheck, callRead, createCheck, callCreate, setCheck, callSet, flushCheck, callFlush, mayWrite, agrees}
@@ -61,7 +58,7 @@ use Rattle.recovery.proofs.Changes.{changes-left}
 use Rattle.guarantees.specs.Points.{AtEvery, last, then, Always}
 use Rattle.guarantees.specs.Refusals.{Reopenable, NeverUnsound, Endable, RoomToEnd, ownFits, WellFormed, NeverMalformed}
 use Rattle.guarantees.proofs.Fine.{Fine}
-use Rattle.guarantees.proofs.Sound.{Firm, firm-stop}
+use Rattle.guarantees.proofs.Sound.{firm-stop}
 use Rattle.guarantees.proofs.Reserve.{share, share-held}
 use Rattle.guarantees.proofs.Always.{as-open, Sure, keep-sure, start-sure}
 

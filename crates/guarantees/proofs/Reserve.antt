@@ -2,18 +2,18 @@
 use Prim.Native.Nat.{ℕ, zero, suc, _+_, _*_, _≤_, _<_}
 use native.Mathlib.Omega.{arith}
 use native.Mathlib.Decide.{ℕ-discrete}
-use mathlib.Core.Path.{_≡_, refl, sym, ap, _∙_}
-use mathlib.Core.Bool.{Bool, true, false, not, _&&_, _||_}
+use mathlib.Core.Path.{_≡_, refl, sym, _∙_}
+use mathlib.Core.Bool.{Bool, true, false, _||_}
 use mathlib.Core.List.{List, [], _∷_}
-use lib.ListN.{length, set, length-set}
+use lib.ListN.{length, length-set}
 use lib.Seq.{getD-set-same}
 use lib.Dec.{eqb}
-use borrow.Author.Tests.{eqb-true, ne-eqb, eq-eqb, lt-ltb}
-use Rattle.words.specs.Tests.{if, sum, by-bool, and-false, or-false, if-t, if-f}
-use Rattle.words.specs.Bits.{bit, with-same, with-other, without-same, without-other, withBit, withoutBit}
+use borrow.Author.Tests.{ne-eqb, eq-eqb}
+use Rattle.words.specs.Tests.{if, sum, by-bool, and-false, or-false}
+use Rattle.words.specs.Bits.{bit, with-other, without-same, without-other}
 use Rattle.records.specs.declared.Record.{Record}
-use Rattle.records.specs.Records.{recordAt, recorded, isBegin, isChange, isEnd, abortedOf}
-use Rattle.records.specs.Changes.{changesIn, changesLeft, reserved}
+use Rattle.records.specs.Records.{recordAt, recorded, isBegin, isChange, isEnd}
+use Rattle.records.specs.Changes.{changesIn, changesLeft}
 use Rattle.records.specs.Effects.{undoing}
 use Rattle.records.specs.Order.{openIn, openNext}
 use Rattle.record_laws.specs.RecordLaws.{begunIn, changesNext, open-append, begun-append, changes-append, recorded-length}

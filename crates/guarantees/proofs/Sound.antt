@@ -4,30 +4,27 @@ use Prim.Native.Nat.{ℕ, zero, suc, _+_, _*_, _-_, _≤_, _<_}
 use native.Mathlib.Omega.{arith}
 use native.Mathlib.Decide.{decLe}
 use mathlib.Core.Path.{_≡_, refl, sym, ap, _∙_}
-use mathlib.Core.Bool.{Bool, true, false}
-use mathlib.Core.List.{List, [], _∷_}
+use mathlib.Core.Bool.{true, false}
+use mathlib.Core.List.{List, _∷_}
 use mathlib.Core.Logic.{_⊎_, inl, inr}
 use lib.ListN.{length, drop}
-use lib.Dec.{eqb}
-use Rattle.words.specs.Tests.{by-bool}
-use Rattle.pages.specs.Geometry.{pageOf, slotOf, objectAt, root, isRefAt}
-use Rattle.pages.specs.Objects.{mapAt, taken, slotWord, occupied, released}
+use Rattle.pages.specs.Geometry.{pageOf, slotOf, objectAt, isRefAt}
+use Rattle.pages.specs.Objects.{taken, slotWord, released}
 use Rattle.pages.specs.Soundness.{areaSound}
-use Rattle.page_laws.specs.SoundFacts.{Sound, sound-facts, facts-sound, ref-same, released-sound}
+use Rattle.page_laws.specs.SoundFacts.{Sound, sound-facts, facts-sound, ref-same}
 use Rattle.records.specs.Records.{sweepOf}
 use Rattle.records.specs.Effects.{effect}
 use Rattle.book.specs.Lines.{Line, line, filtered, hasCommit, pagesAfter}
-use Rattle.book.specs.Books.{Stage, Book, committedLines, stopped, surviving}
+use Rattle.book.specs.Books.{Stage, Book, stopped}
 use Rattle.collector.specs.Objects.{Obj}
 use Rattle.views.specs.View.{view}
 use Rattle.views.proofs.Places.{page-of-at, slot-of-at}
 use Rattle.recovery.proofs.Maps.{Small}
 use Rattle.recovery.proofs.Reversal.{view-occ, view-word}
 use Rattle.book_laws.specs.Seen.{counted, committedOf}
-use Rattle.book_laws.specs.Keeping.{SoundLines}
 use Rattle.book_laws.proofs.Committed.{filtered-same, Alike}
-use Rattle.book_laws.proofs.Pages.{committed-of, state-length}
-use Rattle.book_laws.proofs.Stops.{stableLines, stop-committed}
+use Rattle.book_laws.proofs.Pages.{committed-of}
+use Rattle.book_laws.proofs.Stops.{stop-committed}
 
 -- slot k of page p is as in area a
 record SlotOf (c a : List ℕ) (p k : ℕ) : Type 0 where

@@ -8,7 +8,7 @@ use lib.ListN.{length, set, length-set}
 use lib.Seq.{getD-set-same, getD-set-other}
 use lib.Dec.{eqb, ltb}
 use borrow.Author.Tests.{ltb-true}
-use Rattle.words.specs.Tests.{if, by-bool}
+use Rattle.words.specs.Tests.{by-bool}
 use Rattle.pages.specs.Geometry.{pageAt}
 use Rattle.pages.specs.Objects.{copiedPage}
 use Rattle.page_laws.specs.Runs.{copied-inside, copied-outside}
@@ -19,7 +19,7 @@ use Rattle.records.specs.Effects.{undoing}
 use Rattle.areas.specs.declared.Check.{Check}
 use Rattle.areas.specs.Answers.{accepted}
 use Rattle.areas.specs.Areas.{Areas, Out, receivedCount, stableCount, appended}
-use Rattle.areas.specs.Layout.{reopeningPageAt, passPageAt}
+use Rattle.areas.specs.Layout.{reopeningPageAt}
 use Rattle.areas.specs.Tables.{at}
 use Rattle.areas.specs.Entry.{readiness}
 use Rattle.calls.specs.Calls.{Call, perform}
@@ -29,7 +29,7 @@ use Rattle.calls.specs.Pass.{sweptPage}
 use Rattle.calls.specs.Reopening.{reopened, pageStored, reopeningOver}
 use Rattle.calls.specs.Transactions.{begun, committed, rolledBack, aborted, changesOf}
 use Rattle.acceptance.specs.Calls.{refused-keeps}
-use Rattle.acceptance.specs.Entered.{Open, opened, Entered, entered}
+use Rattle.acceptance.specs.Entered.{Open, opened, entered}
 use Rattle.acceptance.specs.Lengths.{Sized}
 use Rattle.acceptance.specs.Ran.{Outcome}
 use Rattle.acceptance.specs.Transactions.{begin-outcome, commit-outcome, abort-outcome}
@@ -38,7 +38,7 @@ use Rattle.acceptance.specs.Objects.{read-outcome, create-outcome, set-outcome,
 use Rattle.acceptance.specs.Stability.{force-outcome, store-outcome, store-facts, empty-outcome}
 use Rattle.acceptance.specs.Pass.{pass-outcome, step-outcome, step-way, StepWay, scans, turns, sweeps, sweepMapOf}
 use Rattle.acceptance.specs.Reopening.{reopen-ran, restep-outcome, restepped}
-use Rattle.guarantees.specs.Stable.{OfPage, PageStored, OneStore, page, count, AtMostOne, OneStableStore}
+use Rattle.guarantees.specs.Stable.{PageStored, page, count, AtMostOne, OneStableStore}
 
 -- a call that leaves stored pages and log
 same-stable : (s s′ : Areas) → s′ .stored ≡ s .stored → s′ .log ≡ s .log → AtMostOne s s′

@@ -1,28 +1,28 @@
 -- Working words in range: each word by its place, and that every change a call makes keeps it. n is the number of pages. Assumes nothing.
-use Prim.Native.Nat.{ℕ, zero, suc, _+_, _*_, _-_, _≤_, _<_, min}
+use Prim.Native.Nat.{ℕ, zero, suc, _+_, _*_, _-_, _≤_, _<_}
 use native.Mathlib.Omega.{arith}
 use native.Mathlib.Decide.{ℕ-discrete, decLt}
-use mathlib.Core.Path.{_≡_, refl, sym, ap, _∙_, subst}
-use mathlib.Core.Bool.{Bool, true, false, not, _&&_, _||_}
+use mathlib.Core.Path.{_≡_, refl, _∙_}
+use mathlib.Core.Bool.{Bool, true, not, _&&_, _||_}
 use mathlib.Core.List.{List, [], _∷_}
 use lib.ListN.{length, getD, set, length-set}
 use lib.Seq.{getD-set-same, getD-set-other, set-out}
 use lib.Dec.{eqb, leb, ltb}
-use borrow.Author.Tests.{eqb-false, leb-true, le-leb, ltb-true, not-true}
-use Rattle.words.specs.Tests.{if, all, all-intro, by-bool, and-split, and-t, and-l}
+use borrow.Author.Tests.{eqb-false, le-leb, ltb-true, not-true}
+use Rattle.words.specs.Tests.{if, all-intro, by-bool, and-split}
 use Rattle.words.specs.Bits.{bit, withBit, withoutBit, with-lt, without-le}
 use Rattle.words.specs.Spans.{over, fill, upTo}
-use Rattle.pages.specs.Geometry.{isObject, isRef, isRefAt, pageOf, root}
+use Rattle.pages.specs.Geometry.{isRef, pageOf, root}
 use Rattle.pages.specs.Objects.{wordOf, occupied}
 use Rattle.pages.specs.Soundness.{areaSound}
 use Rattle.page_laws.specs.SoundFacts.{ref-in-range}
-use Rattle.areas.specs.Layout.{phaseAt, passPageAt, stepsAt, activeAt, readersAt, writersAt, unflushedAt, knownAt, prunedAt, createdAt, colourAt, workWords, Row, rows}
+use Rattle.areas.specs.Layout.{phaseAt, passPageAt, stepsAt, activeAt, readersAt, writersAt, unflushedAt, knownAt, prunedAt, createdAt, colourAt, Row}
 use Rattle.areas.specs.Ranges.{rowsInRange, workInRange}
-use Rattle.areas.specs.Tables.{at, gain, lose, flag, coloured, greyed, withPass, stepsNext, canWrite, isWhite, isMarking, passRuns, passFirst, passEnd, mayMark}
+use Rattle.areas.specs.Tables.{at, gain, lose, flag, greyed, withPass, stepsNext, canWrite, isWhite, isMarking, passRuns, passFirst, passEnd, mayMark}
 use Rattle.acceptance.specs.Working.{Working}
 use Rattle.calls.specs.Locks.{readLocked, writeLocked}
 use Rattle.calls.specs.Objects.{learned, pruned, prunes}
-use Rattle.calls.specs.Pass.{unflagged, firstColour, passStarted, targetsGreyed, scanned, advanced, lowestGrey}
+use Rattle.calls.specs.Pass.{unflagged, firstColour, passStarted, targetsGreyed, scanned, advanced}
 use Rattle.calls.specs.Transactions.{leaves, knowsRoot, endedEntry, endedEntries, endedTables}
 
 -- v is in range at word i

@@ -1,14 +1,12 @@
 -- A list of calls and cuts that demand 3 speaks of, computed: a sweep frees an object, a create fills its slot again, and a cut falls between
 -- the steps of the reopening. Every call is accepted. Assumes nothing.
-use Prim.Native.Nat.{ℕ, zero, suc, _+_, _*_}
+use Prim.Native.Nat.{ℕ}
 use mathlib.Core.Path.{_≡_, refl}
-use mathlib.Core.Bool.{Bool, true, false, _&&_}
 use mathlib.Core.List.{List, [], _∷_}
 use lib.ListN.{take, replicate}
-use lib.Dec.{eqb}
 use Rattle.areas.specs.Answers.{accepted, valueOf}
-use Rattle.areas.specs.Areas.{Areas, Out, appended}
-use Rattle.calls.specs.Calls.{Call, begin, commit, abort, lockRead, lockWrite, read, create, setWord, flush, force, store, empty, pass, step, reopen, restep, perform}
+use Rattle.areas.specs.Areas.{Areas, appended}
+use Rattle.calls.specs.Calls.{begin, commit, lockWrite, create, setWord, flush, force, pass, step, reopen, restep, perform}
 use Rattle.calls.specs.Formatting.{formatted, cut}
 use Rattle.book.specs.Demand.{Event, call, power}
 use Rattle.words.specs.Bits.{withBit, withoutBit, mapOf, slotsSet}

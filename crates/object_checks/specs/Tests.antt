@@ -1,16 +1,16 @@
 -- What the tests of ranges say in numbers, and that each call's tests look at some of the areas only. Assumes nothing.
 use Prim.Native.Nat.{ℕ, _*_, _<_, _≤_}
 use mathlib.Core.Path.{_≡_, refl}
-use mathlib.Core.Bool.{true, not, _&&_, _||_}
+use mathlib.Core.Bool.{true, _&&_}
 use mathlib.Core.List.{List, []}
-use lib.Dec.{ltb, eqb}
+use lib.Dec.{ltb}
 use borrow.Author.Tests.{ltb-true}
 use Rattle.words.specs.Tests.{and-split}
 use Rattle.pages.specs.Geometry.{isRefAt, isObject}
 use Rattle.areas.specs.Areas.{areas}
-use Rattle.areas.specs.Tables.{isTxn, knows}
+use Rattle.areas.specs.Tables.{isTxn}
 use Rattle.calls.specs.Room.{roomBeyond}
-use Rattle.calls.specs.Objects.{readCheck, createCheck, mayWrite, setCheck, flushCheck}
+use Rattle.calls.specs.Objects.{readCheck, createCheck, setCheck, flushCheck}
 use Rattle.acceptance.specs.Objects.{object-facts}
 
 pub object-range : (n t o : ℕ) → isTxn t && isObject n o ≡ true → (t < 16) × (1 ≤ o) × (o ≤ 16 * n)

@@ -7,7 +7,7 @@ use lib.ListN.{length, set, length-set}
 use lib.Dec.{eqb}
 use native.Mathlib.Omega.{arith}
 use borrow.Author.Tests.{eqb-true, lt-ltb}
-use Rattle.words.specs.Tests.{if, by-bool}
+use Rattle.words.specs.Tests.{by-bool}
 use Rattle.pages.specs.Geometry.{pageAt}
 use Rattle.pages.specs.Objects.{mapAt, copiedPage}
 use Rattle.pages.specs.Table.{rowsOf, withRows}

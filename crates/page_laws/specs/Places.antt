@@ -12,7 +12,7 @@ use native.Mathlib.Omega.{arith}
 use borrow.Author.Tests.{eqb-true, eqb-false, eq-eqb, lt-ltb, le-ltb}
 use Rattle.words.specs.Tests.{if, by-bool, clash, and-l, and-r, and-false}
 use Rattle.words.specs.Bits.{bit, withoutBit}
-use Rattle.words.specs.Spans.{fill, length-fill, fill-inside, fill-outside, copied}
+use Rattle.words.specs.Spans.{fill, length-fill, fill-inside, fill-outside}
 use Rattle.pages.specs.Geometry.{pageAt, slotAt}
 use Rattle.pages.specs.Objects.{mapAt, slotWord, cleared, freedSlot, releasedIn, copiedPage}
 use Rattle.pages.specs.Table.{withRows}

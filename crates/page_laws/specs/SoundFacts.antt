@@ -6,15 +6,15 @@ use mathlib.Core.List.{List}
 use lib.ListN.{length, getD, List·getD-eq-default}
 use lib.Dec.{eqb, ltb}
 use native.Mathlib.Omega.{arith}
-use borrow.Author.Tests.{eqb-true, eq-eqb, ne-eqb, leb-true, le-leb, ltb-true, ltb-false}
+use borrow.Author.Tests.{eqb-true, eq-eqb, leb-true, le-leb, ltb-true, ltb-false}
 use Rattle.words.specs.Tests.{if, all, all-at, all-intro, by-bool, clash, and-split, and-r, and-t, and-true}
-use Rattle.words.specs.Bits.{bit, withBit, withoutBit, with-lt, without-le, without-other, with-other}
+use Rattle.words.specs.Bits.{bit, withBit, with-lt, with-other}
 use Rattle.pages.specs.Geometry.{pageAt, slotAt, pageOf, slotOf, objectAt, root, isRefAt, isRef}
-use Rattle.pages.specs.Objects.{mapAt, taken, slotWord, occupied, wordOf, takenSlot, freedSlot, occupy, release, written, released, copiedPage}
+use Rattle.pages.specs.Objects.{mapAt, taken, slotWord, occupied, wordOf, takenSlot, occupy, written, released, copiedPage}
 use Rattle.pages.specs.Soundness.{mapSound, refSound, refsSound, slotZero, freeZero, pageSound, areaSound}
 use Rattle.page_laws.specs.BitLaws.{clear-le, clear-bit, bit-above, bits-ext}
 use Rattle.page_laws.specs.Places.{area-ext, both-true, putSlot, map-put, word-put, map-set, word-set, map-released-in, word-released-in, map-copy, word-copy}
-use Rattle.page_laws.specs.ViewLaws.{occupied-occupy, occupied-release, occupied-written, occupied-released, occupied-copied}
+use Rattle.page_laws.specs.ViewLaws.{occupied-occupy, occupied-written, occupied-released, occupied-copied}
 
 -- the facts, page by page
 pub record Sound (a : List ℕ) (n : ℕ) : Type 0 where
@@ -108,12 +108,6 @@ module _ (n : ℕ) (a : List ℕ) (len : length a ≡ 129 * n) (sound : areaSoun
     occupy-sound = put-sound (pageOf o) (slotOf o) (withBit (mapAt a (pageOf o)) (slotOf o)) (omega arith) (omega arith)
         (with-lt (mapAt a (pageOf o)) (slotOf o) 16 (facts .map (pageOf o) (omega arith)) (omega arith)) (with-other _ _)
         (occupied-occupy n a o len ho lo root (omega arith) ∙ by-bool (eqb root o) (λ e. rw e) (λ e. rw e (facts .rooted)))
-
-    pub release-sound : (o ≡ root → ⊥) → areaSound (release a o) n ≡ true
-    unfolding freedSlot
-    release-sound other = put-sound (pageOf o) (slotOf o) (withoutBit (mapAt a (pageOf o)) (slotOf o)) (omega arith) (omega arith)
-        (let m = facts .map (pageOf o) (omega arith) in let w = without-le (mapAt a (pageOf o)) (slotOf o) in omega arith) (without-other _ _)
-        (occupied-release n a o len ho lo root (omega arith) ∙ rw (ne-eqb root o (λ z. other (sym z))) (facts .rooted))
 
     pub written-sound : (f v : ℕ) → f < 8 → occupied a o ≡ true → (isRef a o f ≡ true → v ≤ 16 * n) → areaSound (written a o f v) n ≡ true
     written-sound f v hf there small = facts-sound (written a o f v) n (record {

@@ -4,24 +4,16 @@ use Prim.Native.Nat.{ℕ, _*_, _<_, _≤_}
 use mathlib.Core.Path.{_≡_, refl, sym, ap, _∙_}
 use mathlib.Core.Bool.{Bool, true, false, not, _&&_}
 use mathlib.Core.List.{List}
-use lib.ListN.{length, length-set}
+use lib.ListN.{length}
 use lib.Dec.{eqb}
 use native.Mathlib.Omega.{arith}
-use borrow.Author.Tests.{eqb-true, eqb-false, eq-eqb, ne-eqb, lt-ltb}
+use borrow.Author.Tests.{eqb-true, eqb-false, eq-eqb, lt-ltb}
 use Rattle.words.specs.Tests.{if, by-bool, and-true}
 use Rattle.words.specs.Bits.{bit, withBit, withoutBit, with-same, with-other, without-same, without-other}
-use Rattle.pages.specs.Geometry.{slotAt, pageOf, slotOf}
+use Rattle.pages.specs.Geometry.{pageOf, slotOf}
 use Rattle.pages.specs.Objects.{mapAt, occupied, wordOf, takenSlot, freedSlot, occupy, release, written, released, copiedPage}
 use Rattle.page_laws.specs.BitLaws.{clear-bit}
-use Rattle.page_laws.specs.Places.{Holds, putSlot, length-put, map-put, word-put, map-set, word-set, length-released-in, map-released-in, word-released-in, length-copy, map-copy, word-copy}
-
--- an object is its page and slot
-pub one-object : (x o : ℕ) → 1 ≤ x → 1 ≤ o → (eqb (pageOf x) (pageOf o) && eqb (slotOf x) (slotOf o)) ≡ eqb x o
-one-object x o hx ho = by-bool (eqb x o)
-    (λ e. rw (e, eqb-true x o e, eq-eqb (pageOf o) (pageOf o) refl, eq-eqb (slotOf o) (slotOf o) refl))
-    (λ e. let n = eqb-false x o e in by-bool (eqb (pageOf x) (pageOf o))
-    (λ p. rw (e, p) (let h = eqb-true (pageOf x) (pageOf o) p in ne-eqb (slotOf x) (slotOf o) (λ s. n (omega arith))))
-    (λ p. rw (e, p)))
+use Rattle.page_laws.specs.Places.{Holds, putSlot, length-put, map-put, map-set, length-released-in, map-released-in, length-copy, map-copy, word-copy}
 
 -- the slots of a page, occupied or freed
 
@@ -40,10 +32,6 @@ module _ (n : ℕ) (a : List ℕ) (o : ℕ) (len : length a ≡ 129 * n) (ho : 1
   slot-put : (v x : ℕ) → 1 ≤ x → mapAt (putSlot a (pageOf o) (slotOf o) v) (pageOf x) ≡ if (eqb (pageOf x) (pageOf o)) v (mapAt a (pageOf x))
   slot-put v x hx = map-put a (pageOf o) (slotOf o) v (omega arith) holds (pageOf x)
 
-  word-put-object : (v x f : ℕ) → 1 ≤ x → f < 8 → wordOf (putSlot a (pageOf o) (slotOf o) v) x f ≡ if (eqb x o) 0 (wordOf a x f)
-  word-put-object v x f hx hf = word-put a (pageOf o) (slotOf o) v (omega arith) holds (pageOf x) (slotOf x) f (omega arith) hf
-      ∙ ap (λ (t : Bool). if t 0 (wordOf a x f)) (one-object x o hx ho)
-
   -- another slot than o's keeps its bit where the map changes at o's only
   bit-put : (v x : ℕ) → 1 ≤ x → (t : Bool) → bit v (slotOf o) ≡ t → ((j : ℕ) → (j ≡ slotOf o → ⊥) → bit v j ≡ bit (mapAt a (pageOf o)) j)
       → occupied (putSlot a (pageOf o) (slotOf o) v) x ≡ if (eqb x o) t (occupied a x)
@@ -53,39 +41,18 @@ module _ (n : ℕ) (a : List ℕ) (o : ℕ) (len : length a ≡ 129 * n) (ho : 1
       (λ p. rw p (let h = eqb-true (pageOf x) (pageOf o) p in other (slotOf x) (λ s. d (omega arith)) ∙ rw (← h)))
       (λ p. rw p)))
 
-  pub length-occupy : length (occupy a o) ≡ 129 * n
-  length-occupy = length-taken a (pageOf o) (slotOf o) ∙ len
-
   pub occupied-occupy : (x : ℕ) → 1 ≤ x → occupied (occupy a o) x ≡ if (eqb x o) true (occupied a x)
   unfolding takenSlot
   occupied-occupy x hx = bit-put (withBit (mapAt a (pageOf o)) (slotOf o)) x hx true (with-same _ _) (with-other _ _)
-
-  pub word-occupy : (x f : ℕ) → 1 ≤ x → f < 8 → wordOf (occupy a o) x f ≡ if (eqb x o) 0 (wordOf a x f)
-  unfolding takenSlot
-  word-occupy x f hx hf = word-put-object (withBit (mapAt a (pageOf o)) (slotOf o)) x f hx hf
-
-  pub length-release : length (release a o) ≡ 129 * n
-  length-release = length-freed a (pageOf o) (slotOf o) ∙ len
 
   pub occupied-release : (x : ℕ) → 1 ≤ x → occupied (release a o) x ≡ if (eqb x o) false (occupied a x)
   unfolding freedSlot
   occupied-release x hx = bit-put (withoutBit (mapAt a (pageOf o)) (slotOf o)) x hx false (without-same _ _) (without-other _ _)
 
-  pub word-release : (x f : ℕ) → 1 ≤ x → f < 8 → wordOf (release a o) x f ≡ if (eqb x o) 0 (wordOf a x f)
-  unfolding freedSlot
-  word-release x f hx hf = word-put-object (withoutBit (mapAt a (pageOf o)) (slotOf o)) x f hx hf
-
   -- a word written
-
-  pub length-written : (f v : ℕ) → length (written a o f v) ≡ 129 * n
-  length-written f v = length-set a (slotAt (pageOf o) (slotOf o) f) v ∙ len
 
   pub occupied-written : (f v : ℕ) → f < 8 → (x : ℕ) → occupied (written a o f v) x ≡ occupied a x
   occupied-written f v hf x = ap (λ (m : ℕ). bit m (slotOf x)) (map-set a (pageOf o) (slotOf o) f v (omega arith) hf holds (pageOf x))
-
-  pub word-written : (f v : ℕ) → f < 8 → (x g : ℕ) → 1 ≤ x → g < 8 → wordOf (written a o f v) x g ≡ if (eqb x o && eqb g f) v (wordOf a x g)
-  word-written f v hf x g hx hg = word-set a (pageOf o) (slotOf o) f v (omega arith) hf holds (pageOf x) (slotOf x) g (omega arith) hg
-      ∙ ap (λ (t : Bool). if (t && eqb g f) v (wordOf a x g)) (one-object x o hx ho)
 
 -- the slots of a page's map freed
 
@@ -97,10 +64,6 @@ module _ (n : ℕ) (a : List ℕ) (p m : ℕ) (len : length a ≡ 129 * n) (hp :
   occupied-released x = ap (λ (w : ℕ). bit w (slotOf x)) (map-released-in a p m (omega arith) 16 (pageOf x) (omega arith)) ∙ by-bool (eqb (pageOf x) p)
       (λ e. rw (e, eqb-true (pageOf x) p e) (clear-bit (mapAt a p) m 16 (slotOf x) ∙ rw (lt-ltb (slotOf x) 16 (omega arith))))
       (λ e. rw e (sym (and-true (occupied a x))))
-
-  pub word-released : (x f : ℕ) → f < 8 → wordOf (released a p m) x f ≡ if (eqb (pageOf x) p && bit m (slotOf x)) 0 (wordOf a x f)
-  word-released x f hf = word-released-in a p m (omega arith) 16 (pageOf x) (slotOf x) f (omega arith) (omega arith) hf
-      ∙ rw (lt-ltb (slotOf x) 16 (omega arith))
 
 -- a page copied
 

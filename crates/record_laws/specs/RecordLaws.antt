@@ -1,6 +1,6 @@
 -- Laws of log records: one written and read back, what a sound one says, and what depends on the first records of a log only.
 -- Assumes nothing.
-use Prim.Native.Nat.{ℕ, zero, suc, _+_, _*_, _/_, _<_, _≤_}
+use Prim.Native.Nat.{ℕ, zero, suc, _+_, _*_, _<_, _≤_}
 use mathlib.Core.Path.{_≡_, refl, sym, ap, _∙_}
 use mathlib.Core.Bool.{Bool, true, false, not, _&&_, _||_}
 use mathlib.Core.List.{List, [], _∷_}
@@ -12,17 +12,17 @@ use native.Mathlib.Decide.{ℕ-discrete}
 use native.Mathlib.Numerals.{add-one}
 use native.Mathlib.Omega.{arith}
 use borrow.Author.Tests.{ltb-true, leb-true, eqb-true, eqb-false, lt-ltb, le-leb, eq-eqb, ne-eqb, not-true, lt-leb}
-use Rattle.words.specs.Tests.{if, all, any, by-bool, clash, if-t, if-f, and-t, and-f, and-false, and-l, and-r, or-cases, or-false-l, or-false-r, sum, all-at, all-end, all-next, all-stop, all-same, all-intro, any-next}
-use Rattle.words.specs.Bits.{bit, withoutBit, with-lt, without-le}
+use Rattle.words.specs.Tests.{if, all, any, by-bool, clash, if-t, if-f, and-t, and-f, and-false, and-l, and-r, or-cases, or-false-l, or-false-r, all-at, all-end, all-next, all-stop, all-same, all-intro, any-next}
+use Rattle.words.specs.Bits.{bit, with-lt, without-le}
 use Rattle.pages.specs.Geometry.{isObject}
 use Rattle.records.specs.declared.Record.{Record}
 use Rattle.records.specs.Records.{made, recordAt, recorded, isBegin, isChange, isEnd, isSweep}
 use Rattle.records.specs.Soundness.{txnSound, namesObject, objectSound, fieldSound, newSound, referenceSound, wordSound, recordSound, recordsSound}
 use Rattle.records.specs.Order.{openNext, openIn, inOrder, logSound}
-use Rattle.records.specs.Changes.{changesIn, changesLeft, reserved}
+use Rattle.records.specs.Changes.{changesIn}
 use Rattle.records.specs.Naming.{namesPage, pageNamed, lastNaming}
-use Rattle.records.specs.Effects.{effect, undone}
-use Rattle.records.specs.Recovery.{redone, undoneIn, recovered}
+use Rattle.records.specs.Effects.{effect}
+use Rattle.records.specs.Recovery.{redone}
 
 -- tests
 
@@ -45,11 +45,6 @@ any-same : (f g : ℕ → Bool) (n : ℕ) → ((i : ℕ) → i < n → f i ≡ g
 unfolding any
 any-same f g zero h = refl
 any-same f g (suc n) h = rw (any-same f g n (λ i l. h i (omega arith)), h n (omega arith))
-
-sum-same : (f g : ℕ → ℕ) (n : ℕ) → ((i : ℕ) → i < n → f i ≡ g i) → sum f n ≡ sum g n
-unfolding sum
-sum-same f g zero h = refl
-sum-same f g (suc n) h = rw (sum-same f g n (λ i l. h i (omega arith)), h n (omega arith))
 
 -- a record written
 
@@ -315,10 +310,6 @@ module _ (n : ℕ) (g : List ℕ) (i m : ℕ) (r : Record) (e : m ≡ openIn g i
   pub next-unordered : inOrder m r ≡ false → nextSound n g i ≡ false
   next-unordered p = next-by ∙ ap (λ (b : Bool). recordSound n r && b) p ∙ and-false (recordSound n r)
 
-pub log-sound-next : (n : ℕ) (g : List ℕ) (i : ℕ) → logSound n g i && nextSound n g i ≡ logSound n g (i + 1)
-unfolding logSound
-log-sound-next n g i = all-next (nextSound n g) i
-
 pub records-sound-next : (n : ℕ) (g : List ℕ) (i : ℕ) → recordsSound n g i && recordSound n (recordAt g i) ≡ recordsSound n g (i + 1)
 unfolding recordsSound
 records-sound-next n g i = all-next (λ j. recordSound n (recordAt g j)) i
@@ -373,10 +364,6 @@ module _ (g h : List ℕ) where
       ap (λ (m : ℕ). openNext m (recordAt g i)) (open-same i (λ j l. a j (omega arith)))
       ∙ ap (openNext (openIn h i)) (a i (omega arith))
 
-  pub log-sound-same : (n c : ℕ) → Agree g h c → logSound n g c ≡ logSound n h c
-  unfolding logSound
-  log-sound-same n c a = all-same _ _ c (λ i l. sym (next-by n h i (openIn g i) (recordAt g i) (open-same i (λ j k. a j (omega arith))) (a i l)))
-
   pub begun-same : (t c : ℕ) → Agree g h c → begunIn g t c ≡ begunIn h t c
   begun-same t c a = any-same _ _ c (λ i l. ap (λ (r : Record). isBegin r t) (a i l))
 
@@ -386,44 +373,6 @@ module _ (g h : List ℕ) where
   changes-same t (suc i) a =
       ap (changesNext t i (recordAt g i)) (changes-same t i (λ j l. a j (omega arith)))
       ∙ ap (λ (r : Record). changesNext t i r (changesIn h t i)) (a i (omega arith))
-
-  pub left-same : (w : List ℕ) (c t : ℕ) → Agree g h c → changesLeft w g c t ≡ changesLeft w h c t
-  unfolding changesLeft
-  left-same w c t a =
-      ap (λ (l : List ℕ). if (begunIn g t c) l []) (changes-same t c a)
-      ∙ ap (λ (b : Bool). if b (changesIn h t c) []) (begun-same t c a)
-
-  pub reserved-same : (w : List ℕ) (c active : ℕ) → Agree g h c → reserved w g c active ≡ reserved w h c active
-  unfolding reserved
-  reserved-same w c active a = sum-same _ _ 16 (λ t l. ap (λ (x : List ℕ). if (bit active t) (1 + length x) 0) (left-same w c t a))
-
-  pub naming-same : (c : ℕ) → Agree g h c → lastNaming g c ≡ lastNaming h c
-  unfolding lastNaming
-  naming-same zero a = refl
-  naming-same (suc i) a =
-      ap (namingNext i (recordAt g i)) (naming-same i (λ j l. a j (omega arith)))
-      ∙ ap (λ (r : Record). namingNext i r (lastNaming h i)) (a i (omega arith))
-
-  pub redone-same : (p : List ℕ) (c : ℕ) → Agree g h c → redone p g c ≡ redone p h c
-  unfolding redone
-  redone-same p zero a = refl
-  redone-same p (suc i) a =
-      ap (λ (q : List ℕ). effect q (recordAt g i)) (redone-same p i (λ j l. a j (omega arith)))
-      ∙ ap (effect (redone p h i)) (a i (omega arith))
-
-  pub undone-same : (m c : ℕ) (p : List ℕ) → Agree g h c → undoneIn g m c p ≡ undoneIn h m c p
-  unfolding undoneIn
-  undone-same m zero p a = refl
-  undone-same m (suc i) p a =
-      undone-same _ i _ (λ j l. a j (omega arith))
-      ∙ ap (λ (r : Record). undoneIn h (if (eqb (r .kind) 1) (withoutBit m (r .txn)) m) i (if (bit m (r .txn)) (undone p r) p)) (a i (omega arith))
-
-  pub recovered-same : (p : List ℕ) (c : ℕ) → Agree g h c → recovered p g c ≡ recovered p h c
-  unfolding recovered
-  recovered-same p c a =
-      undone-same (openIn g c) c (redone p g c) a
-      ∙ ap (λ (m : ℕ). undoneIn h m c (redone p g c)) (open-same c a)
-      ∙ ap (undoneIn h (openIn h c) c) (redone-same p c a)
 
 -- a record appended
 
@@ -440,13 +389,6 @@ module _ (g : List ℕ) (c : ℕ) (r : Record) (h : 6 * c + 6 ≤ length g) wher
   pub open-append : openIn (recorded g c r) (c + 1) ≡ openNext (openIn g c) r
   open-append = sym (open-next (recorded g c r) c (openIn g c) r (sym (open-same (recorded g c r) g c same-before)) (sym (recorded-same g c r h)))
 
-  pub log-sound-append : (n : ℕ) → logSound n (recorded g c r) (c + 1) ≡ logSound n g c && (recordSound n r && inOrder (openIn g c) r)
-  log-sound-append n =
-      sym (log-sound-next n (recorded g c r) c)
-      ∙ ap (λ (b : Bool). b && nextSound n (recorded g c r) c) (log-sound-same (recorded g c r) g n c same-before)
-      ∙ ap (λ (b : Bool). logSound n g c && b)
-      (next-by n (recorded g c r) c (openIn g c) r (sym (open-same (recorded g c r) g c same-before)) (sym (recorded-same g c r h)))
-
   pub begun-append : (t : ℕ) → begunIn (recorded g c r) t (c + 1) ≡ begunIn g t c || isBegin r t
   begun-append t =
       sym (any-next (λ i. isBegin (recordAt (recorded g c r) i) t) c)
@@ -458,12 +400,3 @@ module _ (g : List ℕ) (c : ℕ) (r : Record) (h : 6 * c + 6 ≤ length g) wher
       sym (changes-next (recorded g c r) t c)
       ∙ ap (changesNext t c (recordAt (recorded g c r) c)) (changes-same (recorded g c r) g t c same-before)
       ∙ ap (λ (s : Record). changesNext t c s (changesIn g t c)) (recorded-same g c r h)
-
-  pub naming-append : lastNaming (recorded g c r) (c + 1) ≡ namingNext c r (lastNaming g c)
-  naming-append = sym (naming-next (recorded g c r) c r (lastNaming g c) (sym (naming-same (recorded g c r) g c same-before)) (sym (recorded-same g c r h)))
-
-  pub redone-append : (a : List ℕ) → redone a (recorded g c r) (c + 1) ≡ effect (redone a g c) r
-  redone-append a =
-      sym (redone-next a (recorded g c r) c)
-      ∙ ap (λ (p : List ℕ). effect p (recordAt (recorded g c r) c)) (redone-same (recorded g c r) g a c same-before)
-      ∙ ap (effect (redone a g c)) (recorded-same g c r h)

@@ -1,18 +1,18 @@
 -- The reader's answer, what reading the log says, and what the check says. n pages, l records, the first c of them. Assumes nothing.
-use Prim.Native.Nat.{ℕ, _+_, _*_, _<_, _≤_}
-use mathlib.Core.Path.{_≡_, refl, sym, ap, _∙_}
-use mathlib.Core.Bool.{Bool, true, false, _&&_}
+use Prim.Native.Nat.{ℕ, _+_, _<_, _≤_}
+use mathlib.Core.Path.{_≡_, sym, ap, _∙_}
+use mathlib.Core.Bool.{true, false, _&&_}
 use mathlib.Core.List.{List}
 use lib.Dec.{leb}
 use native.Mathlib.Omega.{arith}
-use borrow.Author.Tests.{le-leb, lt-leb, leb-true}
+use borrow.Author.Tests.{le-leb, lt-leb}
 use Rattle.words.specs.Tests.{if, all, by-bool, if-t, if-f, and-t, and-false, all-none, all-stop, all-end}
 use Rattle.pages.specs.Soundness.{areaSound}
 use Rattle.records.specs.declared.Record.{Record}
 use Rattle.records.specs.Records.{recordAt}
 use Rattle.records.specs.Soundness.{wordSound, recordSound, recordsSound}
 use Rattle.records.specs.Order.{openIn, openNext, logSound}
-use Rattle.record_laws.specs.RecordLaws.{SoundRecord, sound-record, records-sound-next, log-sound-records, open-next}
+use Rattle.record_laws.specs.RecordLaws.{sound-record, records-sound-next, log-sound-records, open-next}
 use Rattle.areas.specs.declared.Refusal.{Refusal}
 use Rattle.areas.specs.declared.Refusal.the-variants.{Unsound}
 use Rattle.recovering.specs.declared.Read.{Read}

@@ -6,7 +6,7 @@ use mathlib.Core.List.{List}
 use lib.ListN.{length}
 use lib.Dec.{eqb}
 use native.Mathlib.Omega.{arith}
-use Rattle.words.specs.Tests.{if, by-bool}
+use Rattle.words.specs.Tests.{if}
 use Rattle.words.specs.Bits.{bit, withoutBit, bit-none}
 use Rattle.records.specs.declared.Record.{Record}
 use Rattle.records.specs.Records.{recordAt}

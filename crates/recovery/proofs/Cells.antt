@@ -1,6 +1,6 @@
 -- Objects that agree in every cell that no record writes: how that goes on, and which areas do. Assumes nothing.
 use Prim.Native.Nat.{ℕ, _*_}
-use mathlib.Core.Path.{_≡_, refl, sym, ap, _∙_}
+use mathlib.Core.Path.{_≡_, refl, ap, _∙_}
 use mathlib.Core.Bool.{Bool, true}
 use mathlib.Core.List.{List}
 use lib.ListN.{length}
@@ -19,9 +19,6 @@ use Rattle.recovery.proofs.Reopening.{recovered-view}
 module _ (rs : List Record) where
   pub same-self : (A : ℕ → Obj) → SameCells rs A A
   same-self A = record { occ = λ x h. refl; word = λ x f h. refl }
-
-  pub same-sym : {A B : ℕ → Obj} → SameCells rs A B → SameCells rs B A
-  same-sym s = record { occ = λ x h. sym (s .occ x h); word = λ x f h. sym (s .word x f h) }
 
   pub same-trans : {A B C : ℕ → Obj} → SameCells rs A B → SameCells rs B C → SameCells rs A C
   same-trans s u = record { occ = λ x h. s .occ x h ∙ u .occ x h; word = λ x f h. s .word x f h ∙ u .word x f h }

@@ -1,14 +1,14 @@
 -- The records that an abort appends: the undoing records of the changes that document 01's 'Room' names. Assumes nothing.
 use Prim.Native.Nat.{ℕ, zero, suc}
-use mathlib.Core.Path.{_≡_, refl, sym, ap, _∙_}
-use mathlib.Core.Bool.{true, false, not, _&&_, _||_}
-use mathlib.Core.List.{List, [], _∷_}
+use mathlib.Core.Path.{_≡_, refl, sym, _∙_}
+use mathlib.Core.Bool.{true, false, not, _&&_}
+use mathlib.Core.List.{List, _∷_}
 use lib.Dec.{eqb}
 use borrow.Author.Tests.{eqb-true, eqb-false, eq-eqb, ne-eqb, not-true}
-use Rattle.words.specs.Tests.{any, by-bool, clash, and-split, and-false, or-l, or-r, or-false}
+use Rattle.words.specs.Tests.{any, by-bool, clash, and-split, or-l, or-r, or-false}
 use Rattle.words.specs.Bits.{bit, withoutBit, bit-none, bit-with, bit-without}
 use Rattle.records.specs.declared.Record.{Record}
-use Rattle.records.specs.Records.{recordAt, isBegin, isChange, abortedOf}
+use Rattle.records.specs.Records.{recordAt, isBegin, isChange}
 use Rattle.records.specs.Effects.{undoing}
 use Rattle.records.specs.Order.{openIn, openNext}
 use Rattle.records.specs.Changes.{changesIn, changesLeft}
@@ -73,26 +73,3 @@ only-bound t r rs b = rw b refl
 pub only-next : (t : ℕ) (r : Record) (rs : List Record) → (eqb (r .kind) 6 && eqb (r .txn) t) ≡ false → onlyChanges t rs ≡ true → onlyChanges t (r ∷ rs) ≡ true
 unfolding onlyChanges
 only-next t r rs n h = by-bool (bounds r t) (λ b. rw b refl) (λ b. rw (b, n, h) refl)
-
-pub undoing-txn : (r : Record) → undoing r .txn ≡ r .txn
-unfolding undoing
-undoing-txn r = by-bool (eqb (r .kind) 2) (λ e. rw e refl) (λ e. rw e refl)
-
-of-other : (q : Record) (t u : ℕ) → q .txn ≡ t → eqb t u ≡ false → (eqb (q .kind) 6 && eqb (q .txn) u) ≡ false
-of-other q t u e n = ap (λ (k : ℕ). eqb (q .kind) 6 && eqb k u) e ∙ rw n (and-false (eqb (q .kind) 6))
-
--- another's abort leaves what is open of u
-only-undoings : (t u : ℕ) → eqb t u ≡ false → (rs done : List Record) → onlyChanges u done ≡ true → onlyChanges u (undoings t rs done) ≡ true
-unfolding undoings
-only-undoings t u n [] done h = h
-only-undoings t u n (r ∷ rs) done h = by-bool (bounds r t)
-    (λ b. rw b h)
-    (λ b. by-bool (isChange r t)
-    (λ c. let e = eqb-true (r .txn) t (and-split (eqb (r .kind) 2 || eqb (r .kind) 3) (eqb (r .txn) t) c .1) in
-    rw (b, c) (only-undoings t u n rs (undoing r ∷ done) (only-next u (undoing r) done (of-other (undoing r) t u (undoing-txn r ∙ e) n) h)))
-    (λ c. rw (b, c) (only-undoings t u n rs done h)))
-
-pub only-aborted : (t u : ℕ) (rs : List Record) → onlyChanges u rs ≡ true → onlyChanges u (abortedOf t ∷ undoings t rs rs) ≡ true
-only-aborted t u rs h = by-bool (eqb t u)
-    (λ e. only-bound u (abortedOf t) (undoings t rs rs) (rw e refl))
-    (λ e. only-next u (abortedOf t) (undoings t rs rs) refl (only-undoings t u e rs rs h))

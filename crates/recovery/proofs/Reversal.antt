@@ -13,8 +13,8 @@ use Rattle.pages.specs.Objects.{occupied, wordOf, taken}
 use Rattle.pages.specs.Soundness.{slotZero, freeZero}
 use Rattle.records.specs.declared.Record.{Record}
 use Rattle.records.specs.Records.{setOf, uncreateOf}
-use Rattle.records.specs.Effects.{effect, undone, undoing}
-use Rattle.collector.specs.Objects.{Obj, blank, fresh, put}
+use Rattle.records.specs.Effects.{undoing}
+use Rattle.collector.specs.Objects.{Obj, blank, put}
 use Rattle.views.specs.View.{view, applied, unapplied}
 use Rattle.views.proofs.Places.{slot-small}
 use Rattle.views.proofs.Effects.{obj-ext}
@@ -25,12 +25,6 @@ use Rattle.recovery.proofs.Shapes.{shape-change}
 -- a create or a set
 abbrev pub Change : Record → Type 0
 Change r = (r .kind ≡ 2) ⊎ (r .kind ≡ 3)
-
--- the undoing record has the effect of undoing
-pub undoing-effect : (a : List ℕ) (r : Record) → Change r → effect a (undoing r) ≡ undone a r
-unfolding effect undone undoing
-undoing-effect a r (inl k) = rw k refl
-undoing-effect a r (inr k) = rw k refl
 
 module _ (r : Record) where
   self : eqb (r .object) (r .object) ≡ true
@@ -63,10 +57,6 @@ module _ (r : Record) where
   pub set-back : (v : Obj) → r .kind ≡ 3 → v .word (r .field) ≡ r .old → unapplied r (r .object) (applied r (r .object) v) ≡ v
   unfolding applied unapplied put
   set-back v k e = rw (k, self) (obj-ext _ _ refl (λ f. by-bool (eqb f (r .field)) (λ h. rw (h, eqb-true f (r .field) h) (sym e)) (λ h. rw h refl)))
-
-  pub uncreate-back : (v : Obj) → r .kind ≡ 6 → v ≡ fresh → unapplied r (r .object) (applied r (r .object) v) ≡ v
-  unfolding unapplied
-  uncreate-back v k e = rw (k, self, e) refl
 
 -- what a view shows
 module _ (a : List ℕ) (x : ℕ) (hx : 1 ≤ x) where

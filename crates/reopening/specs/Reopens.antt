@@ -1,6 +1,6 @@
 -- Reopening, by the tests in the code. Assumes nothing.
-use Prim.Native.Nat.{ℕ, _+_, _*_, _/_, _<_, _≤_}
-use mathlib.Core.Path.{_≡_, refl, sym, ap, _∙_}
+use Prim.Native.Nat.{ℕ, _*_, _/_, _≤_}
+use mathlib.Core.Path.{_≡_, refl, sym, _∙_}
 use mathlib.Core.Bool.{Bool, true, false, _&&_}
 use mathlib.Core.List.{List}
 use lib.ListN.{length, getD, set, replicate}
@@ -18,7 +18,6 @@ use Rattle.areas.specs.declared.Refusal.the-variants.{Malformed, Unsound}
 use Rattle.areas.specs.declared.Answer.the-variants.{Done, Refused}
 use Rattle.areas.specs.Answers.{need-holds, need-fails}
 use Rattle.areas.specs.Areas.{areas, out, checked-pass, checked-refuse}
-use Rattle.areas.specs.Layout.{reopeningAt}
 use Rattle.areas.specs.Ranges.{fit}
 use Rattle.calls.specs.Reopening.{reopenCheck, reopened, callReopen}
 use Rattle.acceptance.specs.Lengths.{Sized, sized}

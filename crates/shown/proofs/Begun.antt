@@ -9,19 +9,14 @@ use lib.ListN.{length}
 use lib.Dec.{eqb}
 use Rattle.words.specs.Bits.{withoutBit, bit-without}
 use Rattle.pages.specs.Geometry.{root}
-use Rattle.areas.specs.Areas.{Areas}
 use Rattle.areas.specs.Layout.{activeAt, knownAt, prunedAt}
 use Rattle.areas.specs.Tables.{gain}
-use Rattle.calls.specs.Transactions.{leaves, knowsRoot, begun}
+use Rattle.calls.specs.Transactions.{leaves, knowsRoot}
 use Rattle.collector.specs.Bits.{_and_, _or_, or-false}
 use Rattle.collector.specs.State.{add, drop}
 use Rattle.shown.specs.Tables.{objectBit, locksOf, tablesOf, passOf}
 use Rattle.shown.proofs.Frames.{Beside, beside-self, beside-gain, beside-over, wider, later, locks-ext, tables-ext, page-kept, object-kept, flag-kept, locks-kept, pass-kept}
 use Rattle.shown.proofs.Masks.{object-gain, object-drop, over-object, active-gain}
-
-pub begun-work : (s : Areas) (n t : ℕ) → begun s n t .work ≡ knowsRoot (gain (s .work) activeAt t) n t
-unfolding begun
-begun-work s n t = refl
 
 -- t's entries go and one comes: that entry is all that t has
 only : (txn same old : Bool) → ((not txn and old) or (txn and same)) ≡ cond txn same old

@@ -1,16 +1,14 @@
 -- The working tables after a create, as the collector machine's: n is the number of pages. Assumes nothing.
 use Prim.Native.Nat.{ℕ, _+_, _*_, _<_, _≤_}
 use native.Mathlib.Omega.{arith}
-use mathlib.Core.Path.{_≡_, refl, ap, _∙_}
+use mathlib.Core.Path.{_≡_, ap, _∙_}
 use mathlib.Core.Bool.{Bool}
 use mathlib.Core.List.{List}
 use mathlib.Core.Logic.{inl, inr}
 use lib.ListN.{length}
 use Rattle.pages.specs.Geometry.{pageOf}
-use Rattle.areas.specs.Areas.{Areas}
 use Rattle.areas.specs.Layout.{unflushedAt, knownAt, createdAt, colourAt}
 use Rattle.areas.specs.Tables.{gain}
-use Rattle.calls.specs.Objects.{created}
 use Rattle.collector.specs.Objects as Objects
 use Rattle.collector.specs.State.{add}
 use Rattle.shown.specs.Tables.{locksOf, tablesOf, passOf}
@@ -20,10 +18,6 @@ use Rattle.shown.proofs.Masks.{page-gain, object-gain, flag-gain}
 -- 't knows it and the COT gains it for t'
 abbrev pub makes : List ℕ → ℕ → ℕ → ℕ → List ℕ
 makes w n t o = gain (gain (gain w (unflushedAt n (pageOf o)) t) (knownAt n o) t) (createdAt n o) t
-
-pub created-work : (s : Areas) (n t o : ℕ) → created s n t o .work ≡ makes (s .work) n t o
-unfolding created
-created-work s n t o = refl
 
 module _ (w : List ℕ) (n t o : ℕ) (low : 1 ≤ o) (top : o ≤ 16 * n) where
   abbrev w1 : List ℕ

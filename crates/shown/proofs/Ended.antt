@@ -1,7 +1,7 @@
 -- The working tables once a transaction has ended, as the collector machine's: n is the number of pages. Assumes nothing.
 use Prim.Native.Nat.{ℕ, _+_, _*_, _<_}
 use native.Mathlib.Omega.{arith}
-use mathlib.Core.Path.{_≡_, refl, ap, _∙_, fun-ext}
+use mathlib.Core.Path.{_≡_, ap, _∙_, fun-ext}
 use mathlib.Core.Bool.{Bool, true, not}
 use mathlib.Core.List.{List}
 use mathlib.Core.Logic.{inl, inr}
@@ -10,24 +10,15 @@ use lib.Seq.{getD-set-same}
 use lib.Dec.{eqb}
 use Rattle.words.specs.Bits.{withoutBit, bit-without}
 use Rattle.pages.specs.Geometry.{isObject}
-use Rattle.areas.specs.Areas.{Areas}
 use Rattle.areas.specs.Layout.{phaseAt, activeAt, readersAt, writersAt, unflushedAt, knownAt, prunedAt, createdAt, colourAt}
 use Rattle.areas.specs.Tables.{at, lose, passRuns}
-use Rattle.calls.specs.Transactions.{leaves, endedEntry, endedEntries, endedTables, committed, aborted}
+use Rattle.calls.specs.Transactions.{leaves, endedEntry, endedEntries, endedTables}
 use Rattle.collector.specs.Bits.{_and_, _or_}
 use Rattle.collector.specs.Calls.{unlocked, without}
 use Rattle.shown.specs.Tables.{objectBit, flagBit, locksOf, tablesOf, passOf}
 use Rattle.shown.proofs.Frames.{Beside, beside-self, beside-set, beside-over, wider, later, locks-ext, tables-ext, pass-kept}
 use Rattle.shown.proofs.Masks.{page-drop, object-drop, over-page, over-object, ended-bit, flag-ended, active-drop}
 use Rattle.shown.proofs.Phases.{runs-phase}
-
-pub committed-work : (s : Areas) (n t : ℕ) → committed s n t .work ≡ endedTables (s .work) n t
-unfolding committed
-committed-work s n t = refl
-
-pub aborted-work : (s : Areas) (n t : ℕ) → aborted s n t .work ≡ endedTables (s .work) n t
-unfolding aborted
-aborted-work s n t = refl
 
 module _ (w : List ℕ) (n t : ℕ) where
   -- the stages, as the definition has them

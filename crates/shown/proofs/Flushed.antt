@@ -1,22 +1,16 @@
 -- The working tables after a flush, as the collector machine's: n is the number of pages. Assumes nothing.
 use Prim.Native.Nat.{ℕ, _+_, _*_, _<_}
 use native.Mathlib.Omega.{arith}
-use mathlib.Core.Path.{_≡_, refl}
+use mathlib.Core.Path.{_≡_}
 use mathlib.Core.List.{List}
 use mathlib.Core.Logic.{inl, inr}
 use lib.ListN.{length}
-use Rattle.areas.specs.Areas.{Areas}
 use Rattle.areas.specs.Layout.{unflushedAt, knownAt}
 use Rattle.areas.specs.Tables.{lose}
-use Rattle.calls.specs.Objects.{flushed}
 use Rattle.collector.specs.State.{remove}
 use Rattle.shown.specs.Tables.{locksOf, tablesOf, passOf}
 use Rattle.shown.proofs.Frames.{Beside, beside-lose, wider, tables-ext, object-kept, flag-kept, locks-kept, pass-kept}
 use Rattle.shown.proofs.Masks.{page-lose}
-
-pub flushed-work : (s : Areas) (n t p : ℕ) → flushed s n t p .work ≡ lose (s .work) (unflushedAt n p) t
-unfolding flushed
-flushed-work s n t p = refl
 
 module _ (w : List ℕ) (n t p : ℕ) (h : p < n) where
   pub flush-beside : Beside (unflushedAt n 0) (knownAt n 1) w (lose w (unflushedAt n p) t)

@@ -12,11 +12,10 @@ use Rattle.words.specs.Tests.{if, by-bool, and-split}
 use Rattle.pages.specs.Geometry.{pageOf, isRef, isRefAt}
 use Rattle.pages.specs.Objects.{wordOf}
 use Rattle.pages.specs.Soundness.{areaSound}
-use Rattle.areas.specs.Areas.{Areas}
 use Rattle.areas.specs.Layout.{phaseAt, passPageAt, stepsAt, unflushedAt, knownAt, prunedAt, createdAt, colourAt, workWords}
 use Rattle.areas.specs.Tables as Words
 use Rattle.areas.specs.Tables.{at, gain}
-use Rattle.calls.specs.Objects.{pruned, prunes, wordSet}
+use Rattle.calls.specs.Objects.{pruned, prunes}
 use Rattle.collector.specs.Bits.{_and_, _or_, true-and, false-and, and-true, and-false, or-false}
 use Rattle.collector.specs.Objects as Objects
 use Rattle.collector.specs.State.{Colour, Tables, greyed, isMarking, add}
@@ -87,10 +86,6 @@ pruned-is a o f v y low h = rw (view-word a o f low h) (by-bool (eqb y (wordOf a
 -- 'Set a word of a known object'
 abbrev pub writes : List ℕ → List ℕ → ℕ → ℕ → ℕ → ℕ → ℕ → List ℕ
 writes received w n t o f v = let u = gain w (unflushedAt n (pageOf o)) t in let x = pruned u n t (wordOf received o f) in if (prunes received o f v) x u
-
-pub set-work : (s : Areas) (n t o f v : ℕ) → wordSet s n t o f v .work ≡ writes (s .received) (s .work) n t o f v
-unfolding wordSet
-set-work s n t o f v = refl
 
 module _ (a w : List ℕ) (n t o f v : ℕ) (sound : areaSound a n ≡ true) (low : 1 ≤ o) (top : o ≤ 16 * n) (h : f < 8) where
   abbrev unflushed : List ℕ

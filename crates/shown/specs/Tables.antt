@@ -1,9 +1,9 @@
 -- The working tables of a store of n pages as the collector machine's locks, tables and pass. Numbers out of range are nobody's: the
 -- equations below then hold for every transaction, page and object. Assumes nothing.
 use Prim.Native.Nat.{ℕ, zero, suc}
-use mathlib.Core.Bool.{Bool, true, false}
+use mathlib.Core.Bool.{Bool}
 use mathlib.Core.List.{List}
-use lib.Dec.{ltb, leb}
+use lib.Dec.{ltb}
 use Rattle.pages.specs.Geometry.{isObject}
 use Rattle.areas.specs.Layout.{phaseAt, passPageAt, stepsAt, activeAt, readersAt, writersAt, unflushedAt, knownAt, prunedAt, createdAt, colourAt}
 use Rattle.areas.specs.Tables.{at, has, flag}

@@ -1,22 +1,19 @@
 -- Tables whose words a change leaves alone read as before. n is the number of pages. Assumes nothing.
-use Prim.Native.Nat.{ℕ, zero, suc, _+_, _*_, _-_, _≤_, _<_}
+use Prim.Native.Nat.{ℕ, _+_, _*_, _-_, _≤_, _<_}
 use native.Mathlib.Omega.{arith}
-use mathlib.Core.Path.{_≡_, refl, sym, ap, _∙_}
-use mathlib.Core.Bool.{Bool, true, false, cond}
+use mathlib.Core.Path.{_≡_, ap, _∙_}
+use mathlib.Core.Bool.{true}
 use mathlib.Core.List.{List}
-use lib.ListN.{length, getD, set}
+use lib.ListN.{length, set}
 use lib.Seq.{getD-set-same, getD-set-other}
-use lib.Dec.{ltb, leb}
-use borrow.Author.Tests.{ltb-true, leb-true}
-use Rattle.words.specs.Tests.{by-bool, and-split}
+use lib.Dec.{ltb}
 use Rattle.words.specs.Bits.{bit}
 use Rattle.pages.specs.Geometry.{isObject}
-use Rattle.areas.specs.Layout.{phaseAt, passPageAt, stepsAt, activeAt, readersAt, writersAt, unflushedAt, knownAt, prunedAt, createdAt, colourAt}
-use Rattle.areas.specs.Tables.{at, has, flag, withPass}
-use Rattle.collector.specs.Bits.{_and_, false-and, true-and}
-use Rattle.collector.specs.State.{Colour, white, Locks, Tables, Pass}
+use Rattle.areas.specs.Layout.{unflushedAt, knownAt, colourAt}
+use Rattle.areas.specs.Tables.{at, withPass}
+use Rattle.collector.specs.Bits.{_and_}
 use Rattle.shown.proofs.Frames.{locks-ext, tables-ext, byObject, object-low, object-top, page-same, object-same, flag-same, colour-same}
-use Rattle.shown.specs.Tables.{pageBit, objectBit, flagBit, colourOf, colourAtObject, locksOf, tablesOf, passOf}
+use Rattle.shown.specs.Tables.{pageBit, objectBit, colourAtObject, locksOf, tablesOf}
 
 -- v has w's words from a up to b
 abbrev pub Fixed : List ℕ → List ℕ → ℕ → ℕ → Type 0

@@ -1,27 +1,27 @@
 -- A marking step: the scan of an object and the turn to sweeping, read as the machine's. n is the number of pages. Assumes nothing.
-use Prim.Native.Nat.{ℕ, zero, suc, _+_, _*_, _-_, _≤_, _<_, min}
+use Prim.Native.Nat.{ℕ, zero, suc, _+_, _*_, _-_, _≤_, _<_}
 use native.Mathlib.Omega.{arith}
 use mathlib.Core.Path.{_≡_, refl, sym, ap, _∙_}
 use mathlib.Core.Bool.{Bool, true, false, not, cond, _&&_}
 use mathlib.Core.List.{List}
-use lib.ListN.{length, getD, set, length-set}
+use lib.ListN.{length, length-set}
 use lib.Seq.{getD-set-same, getD-set-other}
-use lib.Dec.{ltb, leb, eqb}
-use borrow.Author.Tests.{ltb-true, leb-true, eqb-true, eqb-false, eq-eqb, ne-eqb, le-leb, lt-leb, lt-ltb, not-true}
-use Rattle.words.specs.Tests.{if, by-bool, clash, and-split, and-t, and-f}
+use lib.Dec.{ltb, eqb}
+use borrow.Author.Tests.{ltb-true, eqb-true, eqb-false, eq-eqb, ne-eqb, le-leb, lt-ltb}
+use Rattle.words.specs.Tests.{if, by-bool}
 use Rattle.pages.specs.Geometry.{isObject, isRef, isRefAt}
 use Rattle.pages.specs.Objects.{occupied, wordOf}
-use Rattle.areas.specs.Layout.{phaseAt, passPageAt, stepsAt, colourAt}
+use Rattle.areas.specs.Layout.{passPageAt, stepsAt, colourAt}
 use Rattle.areas.specs.Tables.{at, isWhite, mayMark, coloured, greyed, withPass, stepsNext}
 use Rattle.calls.specs.Pass.{targetsGreyed, scanned}
-use Rattle.collector.specs.Bits.{_and_, _or_, anyb, false-and, true-and, and-false, and-true, or-false}
+use Rattle.collector.specs.Bits.{_and_, _or_, anyb, false-and, true-and, and-false, and-true}
 use Rattle.collector.specs.Objects as O
-use Rattle.collector.specs.Objects.{Obj, points, blank}
+use Rattle.collector.specs.Objects.{points}
 use Rattle.collector.specs.State as M
-use Rattle.collector.specs.State.{Colour, white, grey, black, whiteToGrey, Pass, Locks, Tables}
+use Rattle.collector.specs.State.{Colour, white, grey, black, whiteToGrey}
 use Rattle.views.specs.View.{view}
 use Rattle.shown.specs.Tables.{colourOf, colourAtObject, phaseOf, locksOf, tablesOf, passOf}
-use Rattle.shown_pass.proofs.Kept.{Fixed, object-range, locks-kept, tables-kept, colour-kept, pass-other, pass-phase, pass-page, pass-steps}
+use Rattle.shown_pass.proofs.Kept.{object-range, locks-kept, tables-kept, colour-kept, pass-other, pass-phase, pass-page, pass-steps}
 
 -- the machine's greying, twice and not at all
 grey-twice : (a b : Bool) (c : Colour) → M.greyed a (M.greyed b c) ≡ M.greyed (a or b) c

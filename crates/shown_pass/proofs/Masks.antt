@@ -1,17 +1,17 @@
 -- Words that are 0 or not, as tables of bits read them. n is the number of pages. Assumes nothing.
-use Prim.Native.Nat.{ℕ, zero, suc, _+_, _*_, _-_, _^_, _≤_, _<_}
+use Prim.Native.Nat.{ℕ, _-_, _^_, _<_}
 use native.Mathlib.Omega.{arith}
-use mathlib.Core.Path.{_≡_, refl, sym, ap, _∙_}
-use mathlib.Core.Bool.{Bool, true, false, not, cond, _&&_, _||_}
+use mathlib.Core.Path.{_≡_, refl, sym, _∙_}
+use mathlib.Core.Bool.{true, not}
 use mathlib.Core.List.{List}
 use native.Mathlib.Decide.{ℕ-discrete}
-use lib.Dec.{ltb, leb, eqb}
-use borrow.Author.Tests.{eqb-true, eqb-false, eq-eqb, ne-eqb, lt-ltb, ltb-true}
+use lib.Dec.{eqb}
+use borrow.Author.Tests.{ne-eqb, lt-ltb}
 use Rattle.words.specs.Tests.{by-bool, clash}
 use Rattle.words.specs.Bits.{bit, bit-none, no-bits, withoutBit, without-same, without-other, without-le}
 use Rattle.pages.specs.Geometry.{isObject}
 use Rattle.areas.specs.Tables.{at, has, flag}
-use Rattle.collector.specs.Bits.{_and_, _or_, anyb, anyb-intro, anyb-elim, true-and, or-false-l, or-false-r, or-l, or-r, or-cases}
+use Rattle.collector.specs.Bits.{_and_, _or_, anyb, anyb-intro, anyb-elim, true-and, or-l, or-r, or-cases}
 use Rattle.collector.specs.Objects.{txns}
 use Rattle.collector.specs.State.{some, carried}
 use Rattle.shown.specs.Tables.{objectBit, flagBit}

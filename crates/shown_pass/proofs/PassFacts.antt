@@ -1,19 +1,19 @@
 -- What a pass step's tests on words give the machine. n is the number of pages. Assumes nothing.
-use Prim.Native.Nat.{ℕ, zero, suc, _+_, _*_, _-_, _≤_, _<_}
+use Prim.Native.Nat.{ℕ, zero, suc, _+_, _*_, _-_}
 use native.Mathlib.Omega.{arith}
-use mathlib.Core.Path.{_≡_, refl, sym, ap, _∙_}
-use mathlib.Core.Bool.{Bool, true, false, not, cond, _&&_, _||_}
+use mathlib.Core.Path.{_≡_, refl}
+use mathlib.Core.Bool.{true, false, not}
 use mathlib.Core.List.{List}
 use lib.Dec.{ltb, leb, eqb}
-use borrow.Author.Tests.{ltb-true, leb-true, leb-false, eqb-true, eqb-false, eq-eqb, le-leb, not-false}
-use Rattle.words.specs.Tests.{by-bool, clash, lowest, lowest-passes, lowest-none, or-false-l, or-false-r}
-use Rattle.words.specs.Bits.{bit, bit-none}
+use borrow.Author.Tests.{leb-true, leb-false, eqb-true, eq-eqb, le-leb, not-false}
+use Rattle.words.specs.Tests.{by-bool, clash, lowest, lowest-passes, lowest-none, or-false-r}
+use Rattle.words.specs.Bits.{bit-none}
 use Rattle.pages.specs.Geometry.{isObject}
 use Rattle.areas.specs.Layout.{readersAt, writersAt, colourAt}
-use Rattle.areas.specs.Tables.{at, has, isGrey}
+use Rattle.areas.specs.Tables.{at, isGrey}
 use Rattle.calls.specs.Pass.{lowestGrey, locked}
-use Rattle.collector.specs.Bits.{_and_, false-and, true-and, and-false}
-use Rattle.collector.specs.State.{Colour, white, grey, black}
+use Rattle.collector.specs.Bits.{_and_, and-false}
+use Rattle.collector.specs.State.{white, grey}
 use Rattle.shown.specs.Tables.{pageBit, colourOf, colourAtObject}
 use Rattle.shown_pass.proofs.Kept.{object-range}
 

@@ -1,15 +1,14 @@
 -- The start of a pass, read as the machine's. n is the number of pages. Assumes nothing.
-use Prim.Native.Nat.{ℕ, zero, suc, _+_, _*_, _-_, _≤_, _<_}
+use Prim.Native.Nat.{ℕ, _+_, _*_, _-_, _≤_, _<_}
 use native.Mathlib.Omega.{arith}
-use native.Mathlib.Numerals.{add-one}
-use mathlib.Core.Path.{_≡_, refl, sym, ap, _∙_}
-use mathlib.Core.Bool.{Bool, true, false, not, cond, _&&_, _||_}
+use mathlib.Core.Path.{_≡_, refl, ap, _∙_}
+use mathlib.Core.Bool.{Bool, true, false, cond, _||_}
 use mathlib.Core.List.{List}
-use lib.ListN.{length, getD}
-use lib.Dec.{ltb, leb, eqb}
-use borrow.Author.Tests.{ltb-true, eqb-true, eqb-false, le-leb, lt-ltb}
+use lib.ListN.{length}
+use lib.Dec.{ltb, eqb}
+use borrow.Author.Tests.{ltb-true, eqb-true, le-leb}
 use Rattle.words.specs.Tests.{if, by-bool, clash}
-use Rattle.words.specs.Bits.{bit, withoutBit, without-same}
+use Rattle.words.specs.Bits.{withoutBit, without-same}
 use Rattle.words.specs.Spans.{over, fill, length-over, length-fill, over-inside, over-outside, fill-inside, fill-outside}
 use Rattle.pages.specs.Geometry.{isObject, root}
 use Rattle.areas.specs.Layout.{prunedAt, createdAt, colourAt, knownAt, unflushedAt}
@@ -18,9 +17,9 @@ use Rattle.calls.specs.Pass.{unflagged, firstColour, passStarted}
 use Rattle.collector.specs.Bits.{_and_, _or_, anyb, anyb-elim, and-l, and-r, false-and, true-and}
 use Rattle.collector.specs.Objects.{txns}
 use Rattle.collector.specs.State as M
-use Rattle.collector.specs.State.{Colour, white, grey, some, Locks, Tables, Pass}
+use Rattle.collector.specs.State.{white, grey, some}
 use Rattle.shown.specs.Tables.{pageBit, objectBit, flagBit, colourOf, colourAtObject, locksOf, tablesOf, passOf}
-use Rattle.shown_pass.proofs.Kept.{Fixed, object-range, locks-kept, known-kept, dirty-kept}
+use Rattle.shown_pass.proofs.Kept.{object-range, locks-kept, known-kept, dirty-kept}
 use Rattle.shown_pass.proofs.Masks.{unflagged-bit, unflagged-anyb, some-is}
 use Rattle.shown_pass.proofs.Mark.{moved-locks, moved-tables, moved-pass}
 

@@ -2,31 +2,30 @@
 use Prim.Native.Nat.{ℕ, zero, suc, _+_, _*_, _-_, _≤_, _<_}
 use native.Mathlib.Omega.{arith}
 use native.Mathlib.Numerals.{add-one}
-use mathlib.Core.Path.{_≡_, refl, sym, ap, _∙_}
-use mathlib.Core.Bool.{Bool, true, false, not, cond, _&&_, _||_}
+use mathlib.Core.Path.{_≡_, refl, sym, _∙_}
+use mathlib.Core.Bool.{Bool, true, false, not, cond, _&&_}
 use mathlib.Core.List.{List}
 use mathlib.Core.Logic.{_⊎_, inl, inr}
-use lib.ListN.{length, getD, List·getD-eq-default}
+use lib.ListN.{length, List·getD-eq-default}
 use lib.Dec.{ltb, leb, eqb}
-use borrow.Author.Tests.{ltb-true, ltb-false, eqb-true, eqb-false, eq-eqb, ne-eqb, le-leb, lt-ltb, le-ltb, leb-true, leb-false}
+use borrow.Author.Tests.{ltb-true, eqb-true, eqb-false, eq-eqb, ne-eqb, le-leb, leb-true, leb-false}
 use Rattle.words.specs.Tests.{if, by-bool, clash, and-true, and-false}
-use Rattle.words.specs.Bits.{bit, bit-none, mapOf, map-bit, map-lt}
+use Rattle.words.specs.Bits.{bit, bit-none, map-bit}
 use Rattle.pages.specs.Geometry.{isObject, objectAt, pageAt, pageOf, slotOf}
 use Rattle.pages.specs.Objects.{taken, occupied, released}
-use Rattle.areas.specs.Layout.{passPageAt, stepsAt, readersAt, writersAt, createdAt, colourAt}
-use Rattle.areas.specs.Tables.{at, has, isWhite, passEnd, withPass, stepsNext}
-use Rattle.calls.specs.Pass.{unmarked, sweepMap, locked, advanced}
-use Rattle.collector.specs.Bits.{_and_, _or_, false-and, true-and, and-false as none-and}
+use Rattle.areas.specs.Layout.{passPageAt, stepsAt, createdAt, colourAt}
+use Rattle.areas.specs.Tables.{at, isWhite, stepsNext}
+use Rattle.calls.specs.Pass.{unmarked, sweepMap, advanced}
+use Rattle.collector.specs.Bits.{_and_}
 use Rattle.collector.specs.Objects as O
 use Rattle.collector.specs.Objects.{Obj, blank}
 use Rattle.collector.specs.State as M
-use Rattle.collector.specs.State.{Colour, white, Pass, carried}
+use Rattle.collector.specs.State.{carried}
 use Rattle.collector.specs.Calls.{onward}
 use Rattle.views.specs.View.{view}
 use Rattle.views.proofs.Places.{slot-small}
 use Rattle.views.proofs.Effects.{released-view}
-use Rattle.shown.specs.Tables.{pageBit, objectBit, flagBit, colourOf, colourAtObject, phaseOf, locksOf, tablesOf, passOf}
-use Rattle.shown_pass.proofs.Kept.{object-range}
+use Rattle.shown.specs.Tables.{objectBit, flagBit, colourOf, colourAtObject, phaseOf, locksOf, tablesOf, passOf}
 use Rattle.shown_pass.proofs.Masks.{carried-is}
 use Rattle.shown_pass.proofs.Mark.{moved-locks, moved-tables, moved-pass, steps-suc}
 
@@ -93,12 +92,6 @@ module _ (n : ℕ) (copies w : List ℕ) (created : (x : ℕ) → 1 ≤ x → x 
   swept-view lc a len p zero hp = rw (deadAt-is lc p 0 hp, and-false (eqb p (pageOf 0) && bit (sweepMap copies w n p) (slotOf 0))) (nobody (released a p (sweepMap copies w n p)) ∙ sym (nobody a))
   swept-view lc a len p (suc k) hp = released-view n a len p (sweepMap copies w n p) hp (suc k) (omega arith)
       ∙ rw (deadAt-is lc p (suc k) hp, le-leb 1 (suc k) (omega arith), and-true (eqb p (pageOf (suc k)) && bit (sweepMap copies w n p) (slotOf (suc k)))) (if-cond (eqb p (pageOf (suc k)) && bit (sweepMap copies w n p) (slotOf (suc k))) blank (view a (suc k)))
-
--- nothing to free: no object of the page is dead
-pub none-dead : (n : ℕ) (copies w : List ℕ) (created : (x : ℕ) → 1 ≤ x → x ≤ 16 * n → at w (createdAt n x) < 131072) → length copies ≡ 129 * n → (p x : ℕ) → p < n
-    → sweepMap copies w n p ≡ 0 → deadAt n copies w created p x ≡ false
-none-dead n copies w created lc p x hp z = deadAt-is n copies w created lc p x hp
-    ∙ rw (z, bit-none (slotOf x), and-false (eqb p (pageOf x))) refl
 
 -- the pass record after the page
 module _ (n : ℕ) (w : List ℕ) (len : length w ≡ 6 + 67 * n) (room : at w stepsAt < 17 * n ⊎ (at w passPageAt + 1 < n → ⊥)) (sweeps : phaseOf (at w 2) ≡ M.sweeping) where

@@ -3,7 +3,7 @@ use Prim.Native.Nat.{ℕ, _+_, _*_, _/_, _<_, _≤_}
 use mathlib.Core.Path.{_≡_, refl, ap}
 use mathlib.Core.Bool.{Bool, true}
 use mathlib.Core.List.{List, []}
-use lib.ListN.{length, getD, set, length-set}
+use lib.ListN.{length, getD, set}
 use lib.Seq.{getD-set-same}
 use lib.Dec.{leb}
 use native.Mathlib.Omega.{arith}
@@ -72,12 +72,6 @@ pub room-leb : (g k w : List ℕ) (m h : ℕ) → ((v : List ℕ) → h ≡ rese
     leb (getD k 0 0 + h + m) (recordsIn (length g)) ≡ roomIn g k w m
 unfolding roomBeyond
 room-leb g k w m h e = ap (λ (x : ℕ). leb (getD k 0 0 + x + m) (recordsIn (length g))) (e w)
-
--- a record received, list by list
-pub appended-as : (s c r g k w : List ℕ) (x : Record) →
-    areas s c (effect r x) (recorded g (getD k 0 0) x) (set k 0 (getD k 0 0 + 1)) w ≡ appended (areas s c r g k w) x
-unfolding appended
-appended-as s c r g k w x = refl
 
 -- the outcome of a call that answers the received count
 abbrev pub counted : Areas → Out

@@ -1,13 +1,13 @@
 -- Working tables after a change of one word or of a run of words. Assumes nothing.
 use Prim.Native.Nat.{ℕ, zero, suc, _+_, _*_, _≤_}
-use mathlib.Core.Path.{_≡_, sym, ap, _∙_, refl}
-use mathlib.Core.Bool.{Bool, true, false, _&&_}
+use mathlib.Core.Path.{_≡_, sym, _∙_}
+use mathlib.Core.Bool.{true, false, _&&_}
 use mathlib.Core.List.{List}
 use lib.ListN.{length, getD, set, length-set}
-use lib.Dec.{eqb, leb}
+use lib.Dec.{leb}
 use native.Mathlib.Omega.{arith}
 use borrow.Author.Tests.{leb-true, eq-eqb, ne-eqb}
-use Rattle.words.specs.Tests.{if, by-bool, and-split, and-t, and-f, if-t, if-f}
+use Rattle.words.specs.Tests.{by-bool, and-split, and-t, and-f, if-t, if-f}
 use Rattle.words.specs.Spans.{over, over-next}
 use Rattle.pages.specs.Geometry.{isObject}
 use Rattle.areas.specs.Layout.{colourAt}

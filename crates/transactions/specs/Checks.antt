@@ -1,11 +1,11 @@
 -- Refusals 3, 4, 10 and 11 of begin and commit, of the lists that they read. Assumes nothing.
 use Prim.Native.Nat.{ℕ, _+_, _*_, _<_, _≤_}
-use mathlib.Core.Path.{_≡_, refl, sym, ap, _∙_}
-use mathlib.Core.Bool.{Bool, true, false, not}
+use mathlib.Core.Path.{_≡_, ap, _∙_}
+use mathlib.Core.Bool.{true, false, not}
 use mathlib.Core.List.{List, []}
 use lib.ListN.{length}
 use native.Mathlib.Omega.{arith}
-use borrow.Author.Tests.{lt-ltb, le-ltb, ltb-true}
+use borrow.Author.Tests.{lt-ltb, le-ltb}
 use Rattle.words.specs.Tests.{all, all-out, all-end}
 use Rattle.areas.specs.declared.Refusal.the-variants.{OutOfRange, WrongState, Unflushed, LogFull}
 use Rattle.areas.specs.declared.Check.{Check}

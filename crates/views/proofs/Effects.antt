@@ -1,21 +1,20 @@
 -- The objects that an area shows after a record took effect, and after it was undone. n is the number of pages. Assumes nothing.
-use Prim.Native.Nat.{ℕ, zero, suc, _+_, _*_, _-_, _/_, _%_, _≤_, _<_}
+use Prim.Native.Nat.{ℕ, zero, suc, _*_, _-_, _≤_, _<_}
 use native.Mathlib.Omega.{arith}
 use mathlib.Core.Path.{_≡_, refl, sym, ap, _∙_}
-use mathlib.Core.Bool.{Bool, true, false, not, _&&_, _||_}
+use mathlib.Core.Bool.{Bool, true, false, _&&_}
 use mathlib.Core.List.{List}
-use lib.ListN.{length, getD, set, length-set}
-use lib.Dec.{eqb, ltb, leb}
-use borrow.Author.Tests.{eqb-true, eqb-false, eq-eqb, ne-eqb, lt-ltb, le-ltb, ltb-true, ltb-false, leb-true, le-leb, lt-leb, leb-false}
-use Rattle.words.specs.Tests.{if, by-bool, clash, and-true, and-false, or-true, or-false, and-split}
+use lib.ListN.{length}
+use lib.Dec.{eqb, ltb}
+use borrow.Author.Tests.{eqb-true, eqb-false, eq-eqb, ne-eqb, lt-ltb, ltb-true, ltb-false, le-leb}
+use Rattle.words.specs.Tests.{if, by-bool, and-true, and-false, or-true, or-false}
 use Rattle.words.specs.Bits.{bit}
-use Rattle.pages.specs.Geometry.{pageAt, slotAt, pageOf, slotOf}
-use Rattle.pages.specs.Objects.{mapAt, taken, slotWord, occupied, wordOf, occupy, release, written, released, releasedIn}
-use Rattle.records.specs.declared.Record.{Record}
+use Rattle.pages.specs.Geometry.{pageOf, slotOf}
+use Rattle.pages.specs.Objects.{occupied, wordOf, occupy, release, written, released}
 use Rattle.collector.specs.Objects.{Obj, blank, fresh, put}
-use Rattle.views.specs.View.{shown, view, names, applied, unapplied}
+use Rattle.views.specs.View.{shown, view}
 use Rattle.views.proofs.Places.{slot-small, same-object, page-small}
-use Rattle.views.proofs.Slots.{here, within, length-taken, length-freed, taken-occ, freed-occ, taken-word, freed-word, length-released, released-occ, released-word, put-map, put-word}
+use Rattle.views.proofs.Slots.{here, within, taken-occ, freed-occ, taken-word, freed-word, released-occ, released-word, put-map, put-word}
 
 pub obj-ext : (a b : Obj) → a .occ ≡ b .occ → ((f : ℕ) → a .word f ≡ b .word f) → a ≡ b
 obj-ext a b p q = λ i. record { occ = p i; word = λ f. q f i }

@@ -1,15 +1,11 @@
 -- Where the words of objects stand: no two at one place. Assumes nothing.
-use Prim.Native.Nat.{ℕ, zero, suc, _+_, _*_, _-_, _/_, _%_, _≤_, _<_}
+use Prim.Native.Nat.{ℕ, _+_, _*_, _-_, _≤_, _<_}
 use native.Mathlib.Omega.{arith}
-use mathlib.Core.Path.{_≡_, refl, sym, ap, _∙_}
+use mathlib.Core.Path.{_≡_}
 use Rattle.pages.specs.Geometry.{pageAt, slotAt, objectAt, pageOf, slotOf}
 
 same-page : (a b r q : ℕ) → 129 * a + r ≡ 129 * b + q → r < 129 → q < 129 → (a ≡ b) × (r ≡ q)
 same-page a b r q e l k = (omega arith, omega arith)
-
-pub same-place : (p q s r f g : ℕ) → s < 16 → r < 16 → f < 8 → g < 8 → slotAt p s f ≡ slotAt q r g → (p ≡ q) × (s ≡ r) × (f ≡ g)
-same-place p q s r f g hs hr hf hg e =
-    let k = same-page p q (1 + 8 * s + f) (1 + 8 * r + g) (omega arith) (omega arith) (omega arith) in (k .0, omega arith, omega arith)
 
 pub no-map : (p q s f : ℕ) → s < 16 → f < 8 → slotAt p s f ≡ pageAt q → ⊥
 no-map p q s f hs hf e = let k = same-page p q (1 + 8 * s + f) 0 (omega arith) (omega arith) (omega arith) in omega arith
@@ -25,9 +21,6 @@ page-small n o h l = omega arith
 
 pub map-inside : (n p : ℕ) → p < n → pageAt p < 129 * n
 map-inside n p h = omega arith
-
-pub slot-inside : (n p s f : ℕ) → p < n → s < 16 → f < 8 → slotAt p s f < 129 * n
-slot-inside n p s f h l k = omega arith
 
 pub page-of-at : (p s : ℕ) → s < 16 → pageOf (objectAt p s) ≡ p
 page-of-at p s h = omega arith

@@ -1,22 +1,21 @@
 -- The objects that an area shows after a sound record took effect, and after it was undone. n is the number of pages. Assumes nothing.
-use Prim.Native.Nat.{ℕ, zero, suc, _+_, _*_, _≤_, _<_}
+use Prim.Native.Nat.{ℕ, zero, suc, _*_, _≤_}
 use native.Mathlib.Omega.{arith}
-use mathlib.Core.Path.{_≡_, refl, sym, ap, _∙_}
-use mathlib.Core.Bool.{Bool, true, false, not, _&&_, _||_}
+use mathlib.Core.Path.{_≡_, refl, sym, _∙_}
+use mathlib.Core.Bool.{Bool, true, false, _&&_, _||_}
 use mathlib.Core.List.{List}
-use mathlib.Core.Logic.{_⊎_, inl, inr}
-use lib.ListN.{length, set, length-set}
-use lib.Dec.{eqb, ltb, leb}
+use lib.ListN.{length, length-set}
+use lib.Dec.{eqb}
 use borrow.Author.Tests.{eqb-true, eqb-false, eq-eqb, ne-eqb}
-use Rattle.words.specs.Tests.{if, by-bool, clash, and-split}
+use Rattle.words.specs.Tests.{if, by-bool}
 use Rattle.words.specs.Bits.{bit}
 use Rattle.pages.specs.Geometry.{slotAt, pageOf, slotOf}
-use Rattle.pages.specs.Objects.{occupy, release, written, released}
+use Rattle.pages.specs.Objects.{released}
 use Rattle.records.specs.declared.Record.{Record}
 use Rattle.records.specs.Soundness.{namesObject, recordSound}
 use Rattle.records.specs.Effects.{effect, undone}
-use Rattle.collector.specs.Objects.{Obj, blank, fresh, put}
-use Rattle.views.specs.View.{view, names, applied, unapplied}
+use Rattle.collector.specs.Objects.{Obj, blank, put}
+use Rattle.views.specs.View.{view, applied, unapplied}
 use Rattle.views.proofs.Places.{slot-small, page-small}
 use Rattle.views.proofs.Slots.{length-taken, length-freed, length-released}
 use Rattle.views.proofs.Effects.{occupy-view, release-view, written-view, released-view}

@@ -1,19 +1,16 @@
 -- Slots after one of them is taken, freed or written, and after a map of them is freed. n is the number of pages. Assumes nothing.
-use Prim.Native.Nat.{ℕ, zero, suc, _+_, _*_, _-_, _/_, _%_, _≤_, _<_}
+use Prim.Native.Nat.{ℕ, zero, suc, _*_, _-_, _≤_, _<_}
 use native.Mathlib.Omega.{arith}
-use native.Mathlib.Decide.{ℕ-discrete}
 use mathlib.Core.Path.{_≡_, refl, sym, ap, _∙_}
 use mathlib.Core.Bool.{Bool, true, false, not, _&&_, _||_}
 use mathlib.Core.List.{List}
-use lib.ListN.{length, getD, set, length-set}
-use lib.Seq.{getD-set-same, getD-set-other}
+use lib.ListN.{length, set}
 use lib.Dec.{eqb, ltb}
-use borrow.Author.Tests.{eqb-true, eqb-false, eq-eqb, ne-eqb, lt-ltb, le-ltb, ltb-true, ltb-false}
-use Rattle.words.specs.Tests.{if, by-bool, clash, and-true, and-false, or-true, or-false, and-split}
-use Rattle.words.specs.Bits.{bit, withBit, withoutBit, bit-with, bit-without, bit-none}
-use Rattle.words.specs.Spans.{fill, length-fill, fill-outside, fill-inside}
-use Rattle.pages.specs.Geometry.{pageAt, slotAt, pageOf, slotOf}
-use Rattle.pages.specs.Objects.{mapAt, taken, slotWord, cleared, takenSlot, freedSlot, releasedIn}
+use borrow.Author.Tests.{eqb-true, eqb-false, lt-ltb, le-ltb, ltb-true, ltb-false}
+use Rattle.words.specs.Tests.{if, by-bool, and-true, and-false, or-false}
+use Rattle.words.specs.Bits.{bit, withBit, withoutBit, bit-with, bit-without}
+use Rattle.pages.specs.Geometry.{slotAt}
+use Rattle.pages.specs.Objects.{mapAt, taken, slotWord, takenSlot, freedSlot, releasedIn}
 use Rattle.page_laws.specs.Places.{Holds, length-put, map-put, word-put, map-set, word-set}
 
 -- slot r of page q is slot s of page p

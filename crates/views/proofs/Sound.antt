@@ -1,18 +1,18 @@
 -- What a sound record says, by kind. n is the number of pages. Assumes nothing.
-use Prim.Native.Nat.{ℕ, zero, suc, _+_, _*_, _≤_, _<_}
+use Prim.Native.Nat.{ℕ, _*_, _≤_, _<_}
 use native.Mathlib.Omega.{arith}
-use mathlib.Core.Path.{_≡_, refl, sym, ap, _∙_}
-use mathlib.Core.Bool.{Bool, true, false, not, _&&_, _||_}
+use mathlib.Core.Path.{_≡_, refl}
+use mathlib.Core.Bool.{true, false, _&&_}
 use mathlib.Core.Logic.{_⊎_, inl, inr}
-use lib.Dec.{eqb, ltb, leb}
-use borrow.Author.Tests.{eqb-true, eqb-false, eq-eqb, ltb-true, leb-true, not-true}
-use Rattle.words.specs.Tests.{if, all-at, by-bool, clash, and-split, or-cases}
+use lib.Dec.{eqb}
+use borrow.Author.Tests.{eqb-true}
+use Rattle.words.specs.Tests.{all-at, by-bool}
 use Rattle.words.specs.Bits.{bit}
-use Rattle.pages.specs.Geometry.{isObject, pageOf, slotOf, root}
+use Rattle.pages.specs.Geometry.{pageOf, slotOf, root}
 use Rattle.records.specs.declared.Record.{Record}
 use Rattle.record_laws.specs.RecordLaws as Laws
 use Rattle.record_laws.specs.RecordLaws.{named-object}
-use Rattle.records.specs.Soundness.{kindSound, txnSound, objectSound, fieldSound, oldSound, newSound, namesObject, sweptSound, referenceSound, wordSound, recordSound}
+use Rattle.records.specs.Soundness.{kindSound, txnSound, objectSound, fieldSound, oldSound, newSound, namesObject, wordSound, recordSound}
 
 -- the facts, each under the kinds it is about
 pub record SoundRecord (n : ℕ) (r : Record) : Type 0 where

@@ -1,7 +1,5 @@
 use borrow.Author.Needs.{needs}
-use mathlib.Core.Path.{ap, _∙_}
 use Rattle.calls.specs.Calls.{perform}
-use Rattle.calls.specs.Objects.{callFlush}
 use Rattle.bench_run.specs.Bench.{benchCall, pageSent}
 use Rattle.bench_calls.proofs.read_object.Statement.{statement}
 use Rattle.bench_calls.proofs.read_object.Tie as tie

@@ -1,5 +1,5 @@
 use native.Mathlib.Omega.{arith}
-use mathlib.Core.Path.{_≡_, refl, sym, ap, _∙_}
+use mathlib.Core.Path.{sym, ap, _∙_}
 use borrow.Author.Tests.{not-true, not-false}
 use Rattle.areas.specs.Answers.{need-holds, need-fails}
 use Rattle.object_checks.specs.Tests.{object-range}
@@ -9,13 +9,6 @@ use Rattle.calls.specs.Objects.{createCheck}
 use borrow.Author.Needs.{needs}
 use Rattle.object_checks.proofs.create_check.Statement.{statement}
 use Rattle.object_checks.proofs.create_check.Tie as tie
-use Rattle.object_checks.proofs.create_check.Reads as reads
-use Rattle.object_checks.proofs.create_check.Lts as lts
-use Rattle.object_checks.proofs.in_range.Reads as in-range-reads
-use Rattle.page_ops.proofs.change.occupied.Reads as occupied-reads
-use Rattle.store_ops.proofs.room_beyond.Reads as room-beyond-reads
-use Rattle.store_ops.proofs.can_write.Reads as can-write-reads
-use Rattle.store_ops.proofs.has.Reads as has-reads
 
 in-range-requires : tie.Need-in-range-requires
 in-range-requires c κs = search needs

@@ -1,5 +1,5 @@
 use native.Mathlib.Omega.{arith}
-use mathlib.Core.Path.{_≡_, refl, sym, ap, _∙_}
+use mathlib.Core.Path.{sym, _∙_}
 use borrow.Author.Tests.{not-true, not-false}
 use Rattle.areas.specs.Answers.{need-holds, need-fails}
 use Rattle.page_ops.specs.Agreement.{agrees}
@@ -8,12 +8,6 @@ use Rattle.calls.specs.Objects.{flushCheck}
 use borrow.Author.Needs.{needs}
 use Rattle.object_checks.proofs.flush_check.Statement.{statement}
 use Rattle.object_checks.proofs.flush_check.Tie as tie
-use Rattle.object_checks.proofs.flush_check.Reads as reads
-use Rattle.object_checks.proofs.flush_check.Lts as lts
-use Rattle.object_checks.proofs.page_in_range.Reads as page-in-range-reads
-use Rattle.page_ops.proofs.copy.page_agrees.Reads as page-agrees-reads
-use Rattle.store_ops.proofs.can_write.Reads as can-write-reads
-use Rattle.store_ops.proofs.has.Reads as has-reads
 
 page-in-range-requires : tie.Need-page-in-range-requires
 page-in-range-requires c κs = search needs

@@ -1,10 +1,6 @@
-use native.Mathlib.Omega.{arith}
 use borrow.Author.Needs.{needs}
 use Rattle.object_checks.proofs.in_range.Statement.{statement}
 use Rattle.object_checks.proofs.in_range.Tie as tie
-use Rattle.object_checks.proofs.in_range.Reads as reads
-use Rattle.object_checks.proofs.in_range.Lts as lts
-use Rattle.store_ops.proofs.is_object.Reads as is-object-reads
 
 is-object-requires : tie.Need-is-object-requires
 is-object-requires c κs = search needs

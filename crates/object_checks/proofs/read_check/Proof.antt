@@ -1,5 +1,5 @@
 use native.Mathlib.Omega.{arith}
-use mathlib.Core.Path.{_≡_, refl, sym, ap, _∙_}
+use mathlib.Core.Path.{sym, _∙_}
 use borrow.Author.Tests.{not-true, not-false}
 use Rattle.areas.specs.Answers.{need-holds, need-fails}
 use Rattle.object_checks.specs.Tests.{object-range}
@@ -7,12 +7,6 @@ use Rattle.calls.specs.Objects.{readCheck}
 use borrow.Author.Needs.{needs}
 use Rattle.object_checks.proofs.read_check.Statement.{statement}
 use Rattle.object_checks.proofs.read_check.Tie as tie
-use Rattle.object_checks.proofs.read_check.Reads as reads
-use Rattle.object_checks.proofs.read_check.Lts as lts
-use Rattle.object_checks.proofs.in_range.Reads as in-range-reads
-use Rattle.store_ops.proofs.can_read.Reads as can-read-reads
-use Rattle.store_ops.proofs.has.Reads as has-reads
-use Rattle.store_ops.proofs.knows.Reads as knows-reads
 
 in-range-requires : tie.Need-in-range-requires
 in-range-requires c κs = search needs

@@ -1,5 +1,5 @@
 use native.Mathlib.Omega.{arith}
-use mathlib.Core.Path.{_≡_, refl, sym, ap, _∙_}
+use mathlib.Core.Path.{refl, sym, _∙_}
 use borrow.Author.Tests.{not-true, not-false}
 use Rattle.areas.specs.Answers.{need-holds, need-fails}
 use Rattle.words.specs.Tests.{and-l, and-cong}
@@ -10,14 +10,6 @@ use Rattle.calls.specs.Objects.{setCheck}
 use borrow.Author.Needs.{needs}
 use Rattle.object_checks.proofs.set_check.Statement.{statement}
 use Rattle.object_checks.proofs.set_check.Tie as tie
-use Rattle.object_checks.proofs.set_check.Reads as reads
-use Rattle.object_checks.proofs.set_check.Lts as lts
-use Rattle.object_checks.proofs.in_range.Reads as in-range-reads
-use Rattle.object_checks.proofs.may_write.Reads as may-write-reads
-use Rattle.store_ops.proofs.room_beyond.Reads as room-beyond-reads
-use Rattle.store_ops.proofs.can_write.Reads as can-write-reads
-use Rattle.store_ops.proofs.has.Reads as has-reads
-use Rattle.store_ops.proofs.knows.Reads as knows-reads
 
 in-range-requires : tie.Need-in-range-requires
 in-range-requires c κs = search needs

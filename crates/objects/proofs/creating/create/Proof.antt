@@ -1,5 +1,4 @@
-use native.Mathlib.Omega.{arith}
-use mathlib.Core.Path.{_≡_, refl, sym, ap, _∙_}
+use mathlib.Core.Path.{sym, _∙_}
 use Rattle.areas.specs.Areas.{checked-pass, checked-refuse}
 use Rattle.areas.specs.Entry.{entering-not, entering-go}
 use Rattle.acceptance.specs.Entered.{opened}
@@ -10,11 +9,6 @@ use Rattle.objects.specs.Changing.{create-ready}
 use borrow.Author.Needs.{needs}
 use Rattle.objects.proofs.creating.create.Statement.{statement}
 use Rattle.objects.proofs.creating.create.Tie as tie
-use Rattle.objects.proofs.creating.create.Reads as reads
-use Rattle.objects.proofs.creating.create.Lts as lts
-use Rattle.entry.proofs.entry_check.Reads as entry-check-reads
-use Rattle.object_checks.proofs.create_check.Reads as create-check-reads
-use Rattle.objects.proofs.creating.create_apply.Reads as create-apply-reads
 
 entry-check-requires : tie.Need-entry-check-requires
 entry-check-requires c κs = search needs

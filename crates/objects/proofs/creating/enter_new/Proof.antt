@@ -1,10 +1,6 @@
-use native.Mathlib.Omega.{arith}
 use borrow.Author.Needs.{needs}
 use Rattle.objects.proofs.creating.enter_new.Statement.{statement}
 use Rattle.objects.proofs.creating.enter_new.Tie as tie
-use Rattle.objects.proofs.creating.enter_new.Reads as reads
-use Rattle.objects.proofs.creating.enter_new.Lts as lts
-use Rattle.store_ops.proofs.gain.Reads as gain-reads
 
 sub-i : tie.Need-sub-i
 sub-i c = search needs

@@ -1,5 +1,4 @@
-use native.Mathlib.Omega.{arith}
-use mathlib.Core.Path.{_≡_, refl, sym, ap, _∙_}
+use mathlib.Core.Path.{ap, _∙_}
 use Prim.Native.Nat.{ℕ, _*_}
 use mathlib.Core.List.{List}
 use lib.ListN.{getD, set, length-set}
@@ -8,10 +7,6 @@ use Rattle.objects.specs.Flushing.{page-by-rows}
 use borrow.Author.Needs.{needs}
 use Rattle.objects.proofs.flushing.copy_rows.Statement.{statement}
 use Rattle.objects.proofs.flushing.copy_rows.Tie as tie
-use Rattle.objects.proofs.flushing.copy_rows.Reads as reads
-use Rattle.objects.proofs.flushing.copy_rows.Lts as lts
-use Rattle.page_ops.proofs.rows.put_rows.Reads as put-rows-reads
-use Rattle.page_ops.proofs.rows.rows_of.Reads as rows-of-reads
 
 mul-copies : tie.Need-mul-copies
 mul-copies c = search needs

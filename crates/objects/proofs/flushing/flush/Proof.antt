@@ -1,5 +1,4 @@
-use native.Mathlib.Omega.{arith}
-use mathlib.Core.Path.{_≡_, refl, sym, ap, _∙_}
+use mathlib.Core.Path.{sym, _∙_}
 use Rattle.areas.specs.Areas.{checked-pass, checked-refuse}
 use Rattle.areas.specs.Entry.{entering-not, entering-go}
 use Rattle.calls.specs.Objects.{callFlush}
@@ -10,11 +9,6 @@ use Rattle.acceptance.specs.Entered.{entered, opened}
 use borrow.Author.Needs.{needs}
 use Rattle.objects.proofs.flushing.flush.Statement.{statement}
 use Rattle.objects.proofs.flushing.flush.Tie as tie
-use Rattle.objects.proofs.flushing.flush.Reads as reads
-use Rattle.objects.proofs.flushing.flush.Lts as lts
-use Rattle.entry.proofs.entry_check.Reads as entry-check-reads
-use Rattle.object_checks.proofs.flush_check.Reads as flush-check-reads
-use Rattle.objects.proofs.flushing.flush_apply.Reads as flush-apply-reads
 
 entry-check-requires : tie.Need-entry-check-requires
 entry-check-requires c κs = search needs

@@ -1,15 +1,12 @@
 use borrow.Author.Needs.{needs}
 use native.Mathlib.Omega.{arith}
-use mathlib.Core.Path.{_≡_, refl, sym, ap, _∙_}
+use mathlib.Core.Path.{_≡_}
 use Prim.Native.Nat.{_≤_, _-_, _+_, _*_}
 use lib.ListN.{length}
 use Rattle.calls.specs.Objects.{learned}
 use Rattle.objects.specs.Reading.{learned-none, learned-next}
 use Rattle.objects.proofs.reading.learn.Statement.{statement}
 use Rattle.objects.proofs.reading.learn.Tie as tie
-use Rattle.objects.proofs.reading.learn.Reads as reads
-use Rattle.objects.proofs.reading.learn.Lts as lts
-use Rattle.objects.proofs.reading.learn_word.Reads as learn-word-reads
 
 abbrev Inv-loop : tie.InvT-loop
 Inv-loop received work₀ n t o f₀ work f = (f ≤ 8) × (length work ≡ 6 + 67 * n) × (work ≡ learned received work₀ n t o f)

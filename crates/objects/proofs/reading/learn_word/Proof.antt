@@ -1,13 +1,8 @@
 use native.Mathlib.Omega.{arith}
-use mathlib.Core.Path.{_≡_, refl, sym, ap, _∙_}
 use Rattle.objects.specs.Reading.{word-learned, word-passed, learns-facts}
 use borrow.Author.Needs.{needs}
 use Rattle.objects.proofs.reading.learn_word.Statement.{statement}
 use Rattle.objects.proofs.reading.learn_word.Tie as tie
-use Rattle.objects.proofs.reading.learn_word.Reads as reads
-use Rattle.objects.proofs.reading.learn_word.Lts as lts
-use Rattle.page_ops.proofs.change.word_of.Reads as word-of-reads
-use Rattle.store_ops.proofs.gain.Reads as gain-reads
 
 word-of-requires : tie.Need-word-of-requires
 word-of-requires c κs = search needs

@@ -1,15 +1,9 @@
-use native.Mathlib.Omega.{arith}
-use mathlib.Core.Path.{_≡_, refl, sym, ap, _∙_}
+use mathlib.Core.Path.{sym, _∙_}
 use Rattle.acceptance.specs.Entered.{opened}
 use Rattle.objects.specs.Reading.{read-ready, read-stopped, read-refused, read-passed}
 use borrow.Author.Needs.{needs}
 use Rattle.objects.proofs.reading.read.Statement.{statement}
 use Rattle.objects.proofs.reading.read.Tie as tie
-use Rattle.objects.proofs.reading.read.Reads as reads
-use Rattle.objects.proofs.reading.read.Lts as lts
-use Rattle.entry.proofs.entry_check.Reads as entry-check-reads
-use Rattle.object_checks.proofs.read_check.Reads as read-check-reads
-use Rattle.objects.proofs.reading.read_apply.Reads as read-apply-reads
 
 entry-check-requires : tie.Need-entry-check-requires
 entry-check-requires c κs = search needs

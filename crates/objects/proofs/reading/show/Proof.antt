@@ -1,13 +1,11 @@
 use borrow.Author.Needs.{needs}
 use native.Mathlib.Omega.{arith}
-use mathlib.Core.Path.{_≡_, refl, sym, ap, _∙_}
+use mathlib.Core.Path.{_≡_}
 use Prim.Native.Nat.{_≤_, _-_}
 use lib.ListN.{length, length-set}
 use Rattle.objects.specs.Reading.{shownIn, shown-none, shown-next, shown-all}
 use Rattle.objects.proofs.reading.show.Statement.{statement}
 use Rattle.objects.proofs.reading.show.Tie as tie
-use Rattle.objects.proofs.reading.show.Reads as reads
-use Rattle.objects.proofs.reading.show.Lts as lts
 
 abbrev Inv-loop : tie.InvT-loop
 Inv-loop received buffer₀ o i b f₀ buffer f = (f ≤ 8) × (length buffer ≡ 8) × (buffer ≡ shownIn received o buffer₀ f)

@@ -3,10 +3,6 @@ use Rattle.objects.specs.Changing.{pruned-facts, write-prunes, write-kee
 use borrow.Author.Needs.{needs}
 use Rattle.objects.proofs.setting.enter_write.Statement.{statement}
 use Rattle.objects.proofs.setting.enter_write.Tie as tie
-use Rattle.objects.proofs.setting.enter_write.Reads as reads
-use Rattle.objects.proofs.setting.enter_write.Lts as lts
-use Rattle.objects.proofs.setting.prune.Reads as prune-reads
-use Rattle.store_ops.proofs.gain.Reads as gain-reads
 
 mul-gain : tie.Need-mul-gain
 mul-gain c = search needs

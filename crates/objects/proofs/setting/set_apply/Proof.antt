@@ -1,13 +1,7 @@
 use native.Mathlib.Omega.{arith}
-use mathlib.Core.Path.{_≡_, refl, sym, ap, _∙_}
 use borrow.Author.Needs.{needs}
 use Rattle.objects.proofs.setting.set_apply.Statement.{statement}
 use Rattle.objects.proofs.setting.set_apply.Tie as tie
-use Rattle.objects.proofs.setting.set_apply.Reads as reads
-use Rattle.objects.proofs.setting.set_apply.Lts as lts
-use Rattle.objects.proofs.setting.enter_write.Reads as enter-write-reads
-use Rattle.page_ops.proofs.change.word_of.Reads as word-of-reads
-use Rattle.store_ops.proofs.append.Reads as append-reads
 
 word-of-requires : tie.Need-word-of-requires
 word-of-requires c κs = search needs
