@@ -1,7 +1,7 @@
 //! The calls, on the proved library and on the model, over the same areas.
 
 use kophdaen::Store;
-use model::layout::Areas;
+use model::layout::{Area, Areas};
 use model::{coded, Fault, Model};
 
 #[derive(Clone)]
@@ -31,6 +31,7 @@ pub trait Side {
     fn lend(areas: Areas) -> Self;
     fn back(self) -> Areas;
     fn perform(&mut self, call: &Call) -> u64;
+    fn area(&self, area: Area) -> &[u32];
 }
 
 impl Side for Store {
@@ -66,6 +67,10 @@ impl Side for Store {
         };
         answer.code()
     }
+
+    fn area(&self, area: Area) -> &[u32] {
+        self.areas()[area as usize]
+    }
 }
 
 impl Side for Model {
@@ -97,5 +102,9 @@ impl Side for Model {
             Call::Reopen => self.reopen(),
             Call::ReopenStep => self.reopen_step(),
         })
+    }
+
+    fn area(&self, area: Area) -> &[u32] {
+        self.areas.of(area)
     }
 }

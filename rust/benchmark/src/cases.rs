@@ -50,9 +50,9 @@ impl Base {
             Fill::Full => (records - 2, records - 2 * ACTOR_RECORDS - 4),
         };
         let mut acting = populated(size);
-        fill_log(&mut acting, before_actor, records);
+        fill_log(&mut acting, before_actor);
         let mut quiet = acting.clone();
-        fill_log(&mut quiet, alone, records);
+        fill_log(&mut quiet, alone);
         act(&mut acting);
         let mut flushed = acting.clone();
         flush_all(&mut flushed, ACTOR);
@@ -134,7 +134,7 @@ fn changing(base: &Base) -> Store {
         Fill::Full => (0, records / 2),
     };
     let mut store = populated(base.size);
-    fill_log(&mut store, others, records);
+    fill_log(&mut store, others);
     act(&mut store);
     walk(&mut store, ACTOR, own - ACTOR_RECORDS, &mut Random::new(3));
     flush_all(&mut store, ACTOR);

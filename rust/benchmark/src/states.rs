@@ -1,7 +1,9 @@
 //! The states that calls are measured in: a populated store, and logs of committed transactions.
 
 use kophdaen::Store;
-use model::layout::{map_at, object_at, page_of, word_at, ROOT, SLOTS};
+use model::layout::{
+    map_at, object_at, page_of, page_range, word_at, Table, PAGE_WORDS, RECORD_WORDS, ROOT, SLOTS,
+};
 
 use crate::random::Random;
 
@@ -16,6 +18,16 @@ pub enum Fill {
     Empty,
     Half,
     Full,
+}
+
+impl Fill {
+    pub fn name(self) -> &'static str {
+        match self {
+            Fill::Empty => "empty",
+            Fill::Half => "half full",
+            Fill::Full => "full",
+        }
+    }
 }
 
 pub const FILLS: [Fill; 3] = [Fill::Empty, Fill::Half, Fill::Full];
@@ -68,15 +80,23 @@ fn occupy(area: &mut [u32], object: u32, random: &mut Random) {
     }
 }
 
-/// Commits transactions of up to eight sets, all of it forced, until the log has `target` records.
-/// `room` records of the log may be used.
-pub fn fill_log(store: &mut Store, target: usize, room: usize) {
+/// Appends ended transactions, all of it forced, until the log has `target` records: some commit up to
+/// eight sets, one in four creates an object, sets it and aborts. The kinds come in no regular order.
+pub fn fill_log(store: &mut Store, target: usize) {
     let mut random = Random::new(2);
+    let records = store.log.len() / RECORD_WORDS;
     while received(store) < target {
         let left = target - received(store);
-        let most = 8.min(left - 2).min((room - received(store) - 2) / 2);
-        // What is left must be told in transactions of two records or more, near the end of two.
-        let sets = (0..=most).rev().find(|sets| !matches!(left - sets - 2, 1 | 3)).expect("a way to fill");
+        if random.below(4) == 0 && left >= 10 && received(store) + 10 <= records {
+            abort_one(store, &mut random);
+            continue;
+        }
+        // A set needs room for its undoing too. What is left over must be told in transactions of two
+        // records or more, near the end of a full log of exactly two.
+        let most = (records - received(store) - 2) / 2;
+        let most = random.below(9).min(left - 2).min(most);
+        let fits = |sets: &usize| !matches!(left - sets - 2, 1 | 3);
+        let sets = (0..=most).rev().find(fits).unwrap_or(left - 2);
         accept(store.begin(FILLER));
         walk(store, FILLER, sets, &mut random);
         flush_all(store, FILLER);
@@ -85,14 +105,31 @@ pub fn fill_log(store: &mut Store, target: usize, room: usize) {
     force_all(store);
 }
 
-/// t walks down from the root and sets a data word of each object that it comes to.
+/// Six records: begin, create, set, the two that undo them, aborted.
+fn abort_one(store: &mut Store, random: &mut Random) {
+    accept(store.begin(FILLER));
+    accept(store.lock_write(FILLER, 0));
+    let object = free_object(store);
+    accept(store.create(FILLER, object));
+    accept(store.set_word(FILLER, object, 4, random.word()));
+    accept(store.abort(FILLER));
+}
+
+/// t walks down from the root and sets a word of each object that it comes to: mostly data, sometimes the
+/// reference across the tree.
 pub fn walk(store: &mut Store, t: u32, sets: usize, random: &mut Random) {
     let mut at = ROOT;
+    let mut before = ROOT;
     for _ in 0..sets {
         let mut words = [0; 8];
         accept(store.lock_write(t, page_of(at) as u32));
         accept(store.read(&mut words, t, at));
-        accept(store.set_word(t, at, 4 + random.below(4) as u32, random.word()));
+        let (field, word) = match random.below(4) {
+            0 => (3, before),
+            _ => (4 + random.below(4) as u32, random.word()),
+        };
+        accept(store.set_word(t, at, field, word));
+        before = at;
         let next = words[random.below(3)];
         at = if next == 0 { ROOT } else { next };
     }
@@ -100,9 +137,10 @@ pub fn walk(store: &mut Store, t: u32, sets: usize, random: &mut Random) {
 
 /// t flushes every page that it has locked for writing.
 pub fn flush_all(store: &mut Store, t: u32) {
-    let pages = store.stored.len() / 129;
+    let pages = store.stored.len() / PAGE_WORDS;
     for page in 0..pages {
-        if store.work[6 + pages + page] & 1 << t != 0 {
+        let writers = store.work[Table::Writers.first(pages) + page];
+        if writers & 1 << t != 0 {
             let image = page_image(store, page);
             accept(store.flush(&image, t, page as u32));
         }
@@ -110,7 +148,7 @@ pub fn flush_all(store: &mut Store, t: u32) {
 }
 
 pub fn page_image(store: &Store, page: usize) -> Vec<u32> {
-    store.received[129 * page..129 * (page + 1)].to_vec()
+    store.received[page_range(page)].to_vec()
 }
 
 pub fn force_all(store: &mut Store) {

@@ -66,7 +66,10 @@ fn floor(case: &Case, areas: &mut Areas) -> f64 {
 }
 
 fn sum(areas: [&[u32]; 6]) -> u32 {
-    areas.iter().map(|area| area.iter().fold(0, |sum: u32, &word| sum.wrapping_add(word))).fold(0, u32::wrapping_add)
+    areas
+        .iter()
+        .map(|area| area.iter().fold(0, |sum: u32, &word| sum.wrapping_add(word)))
+        .fold(0, u32::wrapping_add)
 }
 
 /// Both sides must answer what the case says, and leave the same words.
