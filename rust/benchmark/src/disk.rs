@@ -59,10 +59,10 @@ impl Disk {
     }
 }
 
-/// Microseconds that an append of 28 bytes and its sync take: the median of many.
+/// Microseconds that an append of 28 bytes and its sync take: the median of some.
 pub fn sync_time(directory: &Path) -> f64 {
     let mut disk = Disk::new(directory, Sync::EachForce);
-    let mut times: Vec<f64> = (0..300)
+    let mut times: Vec<f64> = (0..51)
         .map(|_| {
             let started = Instant::now();
             disk.append(&[0; 6]);

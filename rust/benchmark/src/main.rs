@@ -57,7 +57,6 @@ fn main() {
 /// The check of refusal 1 alone: a lock for a transaction that is not active.
 fn check(size: Size, clock: f64) -> [Times; 3] {
     FILLS.map(|fill| {
-        eprintln!("the check, {size:?}, {fill:?}");
         let list = cases::cases(size, fill);
         let case = list.iter().find(|case| (case.name, case.number) == ("lock_read", 4)).expect("a case");
         measure(case, clock, Duration::from_millis(1000))
@@ -72,7 +71,6 @@ fn rows(size: Size, clock: f64, budget: Duration) -> Vec<Row> {
     let lists = FILLS.map(|fill| cases::cases(size, fill));
     let row = |i: usize| {
         let case = &lists[0][i];
-        eprintln!("{size:?} {} {}", case.name, case.number);
         let times = [0, 1, 2].map(|fill| measure(&lists[fill][i], clock, budget));
         Row { name: case.name, number: case.number, floor: case.floor, times }
     };

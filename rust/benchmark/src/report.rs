@@ -175,15 +175,13 @@ fn rates(workload: &Workload) -> String {
         plan.pass_length()
     )
     .unwrap();
-    let heads = ["", "without a collector", "with it", "slowdown", "time in the collector"];
+    let heads = ["", "one sync, µs", "without a collector", "with it", "slowdown", "time in the collector"];
     head(&mut page, &heads.map(String::from));
     for (who, rates) in &workload.rates {
-        let slowdown = format!("{:.1} %", 100.0 * (rates.without / rates.with - 1.0));
-        let share = format!("{:.1} %", 100.0 * rates.share);
-        line(
-            &mut page,
-            &[who.clone(), format!("{:.0}", rates.without), format!("{:.0}", rates.with), slowdown, share],
-        );
+        let sync = if rates.sync > 0.0 { format!("{:.0}", rates.sync) } else { "-".to_string() };
+        let speeds = [rates.without, rates.with].map(|rate| format!("{rate:.0}"));
+        let costs = [rates.without / rates.with - 1.0, rates.share].map(|cost| format!("{:.1} %", 100.0 * cost));
+        line(&mut page, &[&[who.clone(), sync][..], &speeds[..], &costs[..]].concat());
     }
     page += "\nThe library's time by use, in memory, with the pass beside:\n\n";
     head(&mut page, &["use", "share"].map(String::from));
@@ -238,10 +236,11 @@ fn sqlite_losses(workload: &Workload, list: &mut Vec<String>) {
     for (who, rates) in workload.rates.iter().filter(|(who, _)| who.starts_with("SQLite")) {
         let on_disk = who.contains("FULL");
         let own = if on_disk { "library, one sync a transaction" } else { "library, in memory" };
-        if rates.with > rate(own) {
+        if rates.with > 1.05 * rate(own) {
             let place = name(workload.plan.size);
-            let by = rates.with / rate(own);
-            list.push(format!("Workload, {place}: {who}, runs {by:.1} times the transactions of: {own}."));
+            let by =
+                format!("{:.1} times ({:.0} to {:.0} a second)", rates.with / rate(own), rates.with, rate(own));
+            list.push(format!("Workload, {place}: {who}, runs {by} as many transactions as: {own}."));
         }
     }
 }

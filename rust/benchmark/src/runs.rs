@@ -7,7 +7,7 @@ use kophdaen::Store;
 use model::Model;
 
 use crate::calls::Side;
-use crate::disk::{Disk, Sync};
+use crate::disk::{sync_time, Disk, Sync};
 use crate::tables::{Shop, JOURNALS};
 use crate::workload::{Depot, Plan, Use};
 
@@ -18,6 +18,8 @@ pub struct Rates {
     pub with: f64,
     /// Of the time with the collector, the share of its calls.
     pub share: f64,
+    /// Microseconds that a sync took just before; 0 where nothing is synced.
+    pub sync: f64,
 }
 
 pub struct Workload {
@@ -46,7 +48,9 @@ pub fn workload(plan: Plan, rounds: usize, directory: &Path) -> Workload {
             ("library, one sync a force".to_string(), depot::<Store>(plan, Some((directory, Sync::EachForce)))),
         ];
         for (journal, name) in JOURNALS {
-            round.push((format!("SQLite, {name}"), shop(|plan| Shop::new(plan, journal, directory), plan)));
+            let sync = if journal.waits() { sync_time(directory) } else { 0.0 };
+            let rates = shop(|plan| Shop::new(plan, journal, directory), plan);
+            round.push((format!("SQLite, {name}"), Rates { sync, ..rates }));
         }
         keep_best(&mut rates, round);
     }
@@ -63,9 +67,10 @@ fn depot<S: Side>(plan: Plan, files: Option<(&Path, Sync)>) -> Rates {
         let disk = files.map(|(directory, sync)| Disk::new(directory, sync));
         Depot::<S>::new(Plan { steps, ..plan }, disk)
     };
+    let sync = files.map_or(0.0, |(directory, _)| sync_time(directory));
+    let mut best = Rates { sync, ..Rates::default() };
     let mut collected = start(plan.steps);
     warm(&mut collected);
-    let mut best = Rates::default();
     for _ in 0..SLICES {
         let (run, seconds) = run_fresh(|| start(0), plan.slice());
         best.without = best.without.max(run as f64 / seconds);
@@ -102,6 +107,7 @@ fn shop(open: impl Fn(Plan) -> Shop, plan: Plan) -> Rates {
         without: run as f64 / seconds,
         with: run_with as f64 / seconds_with,
         share: collected.collecting / seconds_with,
+        sync: 0.0,
     }
 }
 
@@ -114,7 +120,7 @@ fn keep_best(best: &mut Vec<(String, Rates)>, round: Vec<(String, Rates)>) {
     for ((_, best), (_, new)) in best.iter_mut().zip(round) {
         best.without = best.without.max(new.without);
         if new.with > best.with {
-            (best.with, best.share) = (new.with, new.share);
+            (best.with, best.share, best.sync) = (new.with, new.share, new.sync);
         }
     }
 }

@@ -18,6 +18,13 @@ pub enum Journal {
     WriteAhead,
 }
 
+impl Journal {
+    /// Whether a commit waits for the disk.
+    pub fn waits(self) -> bool {
+        matches!(self, Journal::Rollback | Journal::WriteAhead)
+    }
+}
+
 pub const JOURNALS: [(Journal, &str); 4] = [
     (Journal::Memory, "database and journal in memory"),
     (Journal::MemoryOverFile, "database a file, journal in memory, no sync"),
@@ -26,6 +33,9 @@ pub const JOURNALS: [(Journal, &str); 4] = [
 ];
 
 const COLUMNS: [&str; 8] = ["r0", "r1", "r2", "r3", "w0", "w1", "w2", "w3"];
+
+/// Transactions between two collections: as many as a pass takes in the large store.
+const BETWEEN: usize = 277;
 
 /// Deletes what the root does not reach.
 const COLLECT: &str = "
@@ -97,10 +107,10 @@ impl Shop {
     pub fn run_for(&mut self, time: Duration) -> (usize, f64) {
         let started = Instant::now();
         let collects = self.plan.steps > 0;
-        let waits = |shop: &Shop| collects && shop.run < shop.plan.pass_length() && started.elapsed() < 5 * time;
+        let waits = |shop: &Shop| collects && shop.run < BETWEEN && started.elapsed() < 5 * time;
         while started.elapsed() < time || waits(self) {
             self.transaction();
-            if collects && self.run.is_multiple_of(self.plan.pass_length()) {
+            if collects && self.run.is_multiple_of(BETWEEN) {
                 let started = Instant::now();
                 self.collect.run(&[]);
                 self.collecting += started.elapsed().as_secs_f64();
@@ -140,11 +150,12 @@ fn open(journal: Journal, directory: &Path) -> Database {
     }
     let name = if journal == Journal::Memory { ":memory:".to_string() } else { file.display().to_string() };
     let database = Database::open(&name);
-    let (mode, synchronous) = match journal {
-        Journal::Memory | Journal::MemoryOverFile => ("MEMORY", "OFF"),
-        Journal::Rollback => ("DELETE", "FULL"),
-        Journal::WriteAhead => ("WAL", "FULL"),
+    let mode = match journal {
+        Journal::Memory | Journal::MemoryOverFile => "MEMORY",
+        Journal::Rollback => "DELETE",
+        Journal::WriteAhead => "WAL",
     };
+    let synchronous = if journal.waits() { "FULL" } else { "OFF" };
     database.run(&format!("PRAGMA journal_mode = {mode}"));
     database.run(&format!("PRAGMA synchronous = {synchronous}"));
     database
