@@ -207,10 +207,15 @@ fn losses(results: &Results) -> String {
     }
     for table in &results.tables {
         for row in &table.rows {
-            for (fill, t) in FILLS.iter().zip(&row.times).filter(|(_, t)| slower(t)) {
-                let by = ratio(t.library, t.model);
-                let place = format!("{}, {} log", name(table.size), fill.name());
-                list.push(format!("`{}`, {}, {place}: {by} times the model.", row.name, answer(row.number)));
+            for (fill, t) in FILLS.iter().zip(&row.times) {
+                call_loss(row.name, row.number, table.size, fill.name(), t, &mut list);
+            }
+        }
+    }
+    for (sizes, table) in [&results.pages, &results.records] {
+        for grown in table {
+            for (size, t) in sizes.iter().zip(&grown.times) {
+                call_loss(grown.name, grown.number, *size, "full", t, &mut list);
             }
         }
     }
@@ -222,6 +227,13 @@ fn losses(results: &Results) -> String {
         return "Nowhere in this run.\n".to_string();
     }
     list.iter().map(|loss| format!("- {loss}\n")).collect()
+}
+
+fn call_loss(call: &str, number: u32, size: Size, fill: &str, t: &Times, list: &mut Vec<String>) {
+    if slower(t) {
+        let by = ratio(t.library, t.model);
+        list.push(format!("`{call}`, {}, {}, {fill} log: {by} times the model.", answer(number), name(size)));
+    }
 }
 
 /// Slower than the model by more than the clock's grain and the noise.
