@@ -207,16 +207,15 @@ fn losses(results: &Results) -> String {
     }
     for table in &results.tables {
         for row in &table.rows {
-            for (fill, t) in FILLS.iter().zip(&row.times) {
-                call_loss(row.name, row.number, table.size, fill.name(), t, &mut list);
-            }
+            let call = format!("`{}`, {}, {}", row.name, answer(row.number), name(table.size));
+            list.extend(call_loss(&call, FILLS.map(|fill| format!("{} log", fill.name())).iter().zip(&row.times)));
         }
     }
     for (sizes, table) in [&results.pages, &results.records] {
         for grown in table {
-            for (size, t) in sizes.iter().zip(&grown.times) {
-                call_loss(grown.name, grown.number, *size, "full", t, &mut list);
-            }
+            let call = format!("`{}`, {}, full log", grown.name, answer(grown.number));
+            let places: Vec<String> = sizes.iter().map(|size| name(*size)).collect();
+            list.extend(call_loss(&call, places.iter().zip(&grown.times)));
         }
     }
     for (place, t) in results.damages.iter().filter(|(_, t)| slower(t)) {
@@ -229,11 +228,13 @@ fn losses(results: &Results) -> String {
     list.iter().map(|loss| format!("- {loss}\n")).collect()
 }
 
-fn call_loss(call: &str, number: u32, size: Size, fill: &str, t: &Times, list: &mut Vec<String>) {
-    if slower(t) {
-        let by = ratio(t.library, t.model);
-        list.push(format!("`{call}`, {}, {}, {fill} log: {by} times the model.", answer(number), name(size)));
-    }
+/// Where a call is slower than the model, in one line.
+fn call_loss<'a>(call: &str, places: impl Iterator<Item = (&'a String, &'a Times)>) -> Option<String> {
+    let lost: Vec<String> = places
+        .filter(|(_, t)| slower(t))
+        .map(|(place, t)| format!("{} ({place})", ratio(t.library, t.model)))
+        .collect();
+    (!lost.is_empty()).then(|| format!("{call}: {} times the model.", lost.join(", ")))
 }
 
 /// Slower than the model by more than the clock's grain and the noise.
