@@ -1,0 +1,214 @@
+//! For each call the state that it is measured in: accepted, refused on its own account, and
+//! refused with 1.
+
+use kophdaen::Store;
+use model::layout::{page_of, word_at, Areas, ROOT, SLOTS};
+
+use crate::calls::{Call, Side};
+use crate::random::Random;
+use crate::states::*;
+
+/// Which words the floor adds up.
+#[derive(Clone, Copy, PartialEq)]
+pub enum Floor {
+    /// All six areas.
+    All,
+    /// What reopening looks at: the stored pages, the stable records and their count.
+    Stable,
+    /// None: the call looks at lengths alone.
+    Nothing,
+}
+
+pub struct Case {
+    pub name: &'static str,
+    /// 0 where accepted, else the refusal.
+    pub number: u32,
+    pub call: Call,
+    pub areas: Areas,
+    pub floor: Floor,
+}
+
+/// The states that most cases start from.
+struct Base {
+    size: Size,
+    fill: Fill,
+    /// No transaction active, every record stable.
+    quiet: Store,
+    /// The actor has begun, locked, created and set; its records are not stable, its page not flushed.
+    acting: Store,
+    /// .. and flushed.
+    flushed: Store,
+}
+
+impl Base {
+    fn new(size: Size, fill: Fill) -> Base {
+        let records = size.records;
+        let (alone, before_actor) = match fill {
+            Fill::Empty => (0, 0),
+            Fill::Half => (records / 2, records / 2 - ACTOR_RECORDS),
+            // A begin still fits; beside the actor, which reserves 3, another begin and a change.
+            Fill::Full => (records - 2, records - 2 * ACTOR_RECORDS - 4),
+        };
+        let mut acting = populated(size);
+        fill_log(&mut acting, before_actor);
+        let mut quiet = acting.clone();
+        fill_log(&mut quiet, alone);
+        act(&mut acting);
+        let mut flushed = acting.clone();
+        flush_all(&mut flushed, ACTOR);
+        Base { size, fill, quiet, acting, flushed }
+    }
+}
+
+pub fn cases(size: Size, fill: Fill) -> Vec<Case> {
+    let base = Base::new(size, fill);
+    let mut list = Vec::new();
+    formatting(&base, &mut list);
+    transactions(&base, &mut list);
+    locks(&base, &mut list);
+    objects(&base, &mut list);
+    stability(&base, &mut list);
+    passes(&base, &mut list);
+    reopening(&base, &mut list);
+    list
+}
+
+fn add(list: &mut Vec<Case>, name: &'static str, number: u32, store: &Store, call: Call) {
+    list.push(Case { name, number, call, areas: store.clone().back(), floor: Floor::All });
+}
+
+/// Accepted in one state, refused with `number` in another, and refused with 1 where the accepting
+/// state has one word damaged.
+fn add_three(
+    list: &mut Vec<Case>,
+    name: &'static str,
+    accepting: (&Store, Call),
+    number: u32,
+    refusing: (&Store, Call),
+) {
+    add(list, name, 0, accepting.0, accepting.1.clone());
+    add(list, name, number, refusing.0, refusing.1);
+    add(list, name, 1, &damaged(accepting.0), accepting.1);
+}
+
+/// One word unsound where both sides look last: in the last record, or, without records, in the last
+/// page copy. So the whole check runs.
+pub fn damaged(store: &Store) -> Store {
+    let mut store = store.clone();
+    match received(&store) {
+        0 => {
+            let last = store.copies.len() - 129;
+            store.copies[last] = 1 << 16;
+        }
+        count => store.log[6 * (count - 1)] = 8,
+    }
+    store
+}
+
+fn formatting(base: &Base, list: &mut Vec<Case>) {
+    add(list, "format", 0, &base.flushed, Call::Format);
+    let mut long = base.flushed.clone();
+    long.counts.push(0);
+    add(list, "format", 1, &long, Call::Format);
+    list.iter_mut().for_each(|case| case.floor = Floor::Nothing);
+    list[0].floor = Floor::All;
+}
+
+fn transactions(base: &Base, list: &mut Vec<Case>) {
+    let begin = Call::Begin(ACTOR);
+    add_three(list, "begin", (&base.quiet, begin.clone()), 4, (&base.flushed, begin));
+    let commit = Call::Commit(ACTOR);
+    add_three(list, "commit", (&base.flushed, commit.clone()), 10, (&base.acting, commit));
+    let abort = Call::Abort(ACTOR);
+    let undone = changing(base);
+    add_three(list, "abort", (&undone, abort.clone()), 4, (&base.quiet, abort));
+}
+
+/// The actor has made half of the records in the log: with what it reserves, the log is then as full
+/// as calls make it.
+fn changing(base: &Base) -> Store {
+    let records = base.size.records;
+    let (others, own) = match base.fill {
+        Fill::Empty => (0, ACTOR_RECORDS),
+        Fill::Half => (records / 4, records / 4),
+        Fill::Full => (0, records / 2),
+    };
+    let mut store = populated(base.size);
+    fill_log(&mut store, others);
+    act(&mut store);
+    walk(&mut store, ACTOR, own - ACTOR_RECORDS, &mut Random::new(3));
+    flush_all(&mut store, ACTOR);
+    store
+}
+
+fn locks(base: &Base, list: &mut Vec<Case>) {
+    let page = base.size.pages as u32 - 1;
+    let read = |t| Call::LockRead(t, page);
+    add_three(list, "lock_read", (&base.flushed, read(ACTOR)), 4, (&base.flushed, read(OTHER)));
+    let mut held = base.flushed.clone();
+    accept(held.begin(OTHER));
+    accept(held.lock_write(OTHER, page));
+    let write = Call::LockWrite(ACTOR, page);
+    add_three(list, "lock_write", (&base.flushed, write.clone()), 6, (&held, write));
+}
+
+fn objects(base: &Base, list: &mut Vec<Case>) {
+    let state = &base.flushed;
+    let child = state.received[word_at(ROOT, 0)];
+    let read = |object| Call::Read(ACTOR, object);
+    let unlocked = (1..).find(|&o| page_of(o) == 1).unwrap();
+    add_three(list, "read", (state, read(ROOT)), 5, (state, read(unlocked)));
+    let create = |object| Call::Create(ACTOR, object);
+    add_three(list, "create", (state, create(free_object(state))), 8, (state, create(ROOT)));
+    let set = |word| Call::SetWord(ACTOR, ROOT, 1, word);
+    let unknown = (SLOTS * base.size.pages) as u32 + 1;
+    add_three(list, "set_word", (state, set(child)), 7, (state, set(unknown)));
+    let image = page_image(&base.acting, 0);
+    let mut other = image.clone();
+    other[128] ^= 1;
+    let flush = |image| Call::Flush(ACTOR, 0, image);
+    add_three(list, "flush", (&base.acting, flush(image)), 9, (&base.acting, flush(other)));
+}
+
+fn stability(base: &Base, list: &mut Vec<Case>) {
+    add_three(list, "force", (&base.flushed, Call::Force), 4, (&base.quiet, Call::Force));
+    let store = Call::StorePage;
+    let last = base.size.pages as u32 - 1;
+    add_three(list, "store_page", (&base.flushed, store(last)), 12, (&base.flushed, store(0)));
+    let mut stored = base.quiet.clone();
+    (0..=last).for_each(|page| accept(stored.store_page(page)));
+    add_three(list, "empty_log", (&stored, Call::EmptyLog), 13, (&base.flushed, Call::EmptyLog));
+}
+
+fn passes(base: &Base, list: &mut Vec<Case>) {
+    let mut state = base.quiet.clone();
+    accept(state.start_pass());
+    add_three(list, "start_pass", (&base.quiet, Call::StartPass), 4, (&state, Call::StartPass));
+    (0..4 * base.size.pages).for_each(|_| accept(state.pass_step()));
+    add_three(list, "pass_step (mark)", (&state, Call::PassStep), 4, (&base.quiet, Call::PassStep));
+    while state.work[2] == 1 {
+        let before = state.clone();
+        accept(state.pass_step());
+        if state.work[2] == 2 {
+            add(list, "pass_step (turn)", 0, &before, Call::PassStep);
+        }
+    }
+    add(list, "pass_step (sweep)", 0, &state, Call::PassStep);
+    add(list, "pass_step (sweep)", 1, &damaged(&state), Call::PassStep);
+}
+
+fn reopening(base: &Base, list: &mut Vec<Case>) {
+    // The actor's records are stable too, so that it is undone.
+    let mut cut = base.flushed.clone();
+    force_all(&mut cut);
+    cut.cut();
+    let first = list.len();
+    add(list, "reopen", 0, &cut, Call::Reopen);
+    let mut unsound = cut.clone();
+    unsound.log[6 * (cut.counts[1] as usize - 1)] = 8;
+    add(list, "reopen", 14, &unsound, Call::Reopen);
+    list[first..].iter_mut().for_each(|case| case.floor = Floor::Stable);
+    let mut open = cut;
+    accept(open.reopen());
+    add_three(list, "reopen_step", (&open, Call::ReopenStep), 4, (&base.quiet, Call::ReopenStep));
+}
