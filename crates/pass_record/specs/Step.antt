@@ -12,7 +12,7 @@ use Rattle.calls.specs.Pass as spec
 use Rattle.pass_record.specs.declared.Pass.{Pass}
 
 unfoldable pub passOf : List ℕ → Pass
-passOf w = record { phase = at w phaseAt; page = at w passPageAt; steps = at w stepsAt; }
+passOf w = record { phase = at w phaseAt; page = at w passPageAt; steps = at w stepsAt }
 
 unfoldable pub withRecord : List ℕ → Pass → List ℕ
 withRecord w p = withPass w (p .phase) (p .page) (p .steps)
@@ -38,28 +38,28 @@ stepsAfter steps n = min (steps + 1) (17 * n)
 -- 'One pass step advances the pass record by one object or one page.' grey: an object is left to mark
 unfoldable pub passNext : Pass → ℕ → Bool → Pass
 passNext p n grey =
-    let object : Pass = record { phase = 1; page = p .page; steps = stepsAfter (p .steps) n; } in
-    let turn : Pass = record { phase = 2; page = 0; steps = stepsAfter (p .steps) n; } in
-    let page : Pass = record { phase = 2; page = p .page + 1; steps = stepsAfter (p .steps) n; } in
-    let over : Pass = record { phase = 0; page = 0; steps = 0; } in
+    let object : Pass = record { phase = 1; page = p .page; steps = stepsAfter (p .steps) n } in
+    let turn : Pass = record { phase = 2; page = 0; steps = stepsAfter (p .steps) n } in
+    let page : Pass = record { phase = 2; page = p .page + 1; steps = stepsAfter (p .steps) n } in
+    let over : Pass = record { phase = 0; page = 0; steps = 0 } in
     if (eqb (p .phase) 1) (if grey object turn) (if (ltb (p .page + 1) n) page over)
 
 -- the four ways of a step
 module _ (p : Pass) (n : ℕ) (grey : Bool) (steps : ℕ) (more : steps ≡ stepsAfter (p .steps) n) where
-  pub next-object : p .phase ≡ 1 → grey ≡ true → record { phase = 1; page = p .page; steps = steps; } ≡ passNext p n grey
+  pub next-object : p .phase ≡ 1 → grey ≡ true → record { phase = 1; page = p .page; steps = steps } ≡ passNext p n grey
   unfolding passNext
   next-object h e = rw (more, e) (sym (if-t _ _ _ (eq-eqb (p .phase) 1 h)))
 
-  pub next-turn : p .phase ≡ 1 → grey ≡ false → record { phase = 2; page = 0; steps = steps; } ≡ passNext p n grey
+  pub next-turn : p .phase ≡ 1 → grey ≡ false → record { phase = 2; page = 0; steps = steps } ≡ passNext p n grey
   unfolding passNext
   next-turn h e = rw (more, e) (sym (if-t _ _ _ (eq-eqb (p .phase) 1 h)))
 
   module _ (sweeping : p .phase ≡ 1 → ⊥) where
-    pub next-page : p .page + 1 < n → record { phase = 2; page = p .page + 1; steps = steps; } ≡ passNext p n grey
+    pub next-page : p .page + 1 < n → record { phase = 2; page = p .page + 1; steps = steps } ≡ passNext p n grey
     unfolding passNext
     next-page h = rw more (sym (if-f _ _ _ (ne-eqb (p .phase) 1 sweeping) ∙ if-t _ _ _ (lt-ltb (p .page + 1) n h)))
 
-    pub next-over : n ≤ p .page + 1 → record { phase = 0; page = 0; steps = 0; } ≡ passNext p n grey
+    pub next-over : n ≤ p .page + 1 → record { phase = 0; page = 0; steps = 0 } ≡ passNext p n grey
     unfolding passNext
     next-over h = sym (if-f _ _ _ (ne-eqb (p .phase) 1 sweeping) ∙ if-f _ _ _ (le-ltb (p .page + 1) n h))
 
