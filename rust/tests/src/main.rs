@@ -6,7 +6,6 @@
 //!   compare power  [--seed N] [--calls N] [--write FILE]
 //!   compare show FAULT [--seed N] [--calls N]
 //!   compare oracle PROGRAM [--seed N] [--calls N] [--large]
-//!   compare speed
 //!
 //! Exit status 0 where nothing differs (power: where every fault is noticed), else 1.
 
@@ -79,14 +78,13 @@ fn main() {
             let scope = options.scope();
             oracle::run(&options.program.unwrap_or_else(usage), options.seed, options.calls, scope)
         }
-        "speed" => run_speed(),
         _ => usage(),
     };
     exit(if good { 0 } else { 1 });
 }
 
 fn usage<T>() -> T {
-    eprintln!("usage: compare examples | random | power | show FAULT | oracle PROGRAM | speed [--seed N] [--calls N] [--large] [--write FILE]");
+    eprintln!("usage: compare examples | random | power | show FAULT | oracle PROGRAM [--seed N] [--calls N] [--large] [--write FILE]");
     exit(2)
 }
 
@@ -158,39 +156,4 @@ fn run_random(options: &Options) -> bool {
             false
         }
     }
-}
-
-/// Calls per second of each side alone, on the calls of the same random lists.
-fn run_speed() -> bool {
-    for kind in [Kind::PROVED, MODEL] {
-        for (pages, records) in [(4, 64), (256, 4096)] {
-            let mut random = Random::new(1);
-            let (_, _, style, _) = plan(&mut random, Scope::Legal);
-            let mut side = kind.make(pages, records);
-            let mut generator = Generator::new(random, style, pages);
-            let mut lead = Areas::zeros(pages, records);
-            let (mut calls, mut seconds) = (0u64, 0.0);
-            while calls < if pages == 4 { 100_000 } else { 4_000 } {
-                let action = generator.next(&lead);
-                if let actions::Action::Call(call) = &action {
-                    let image = match call {
-                        actions::Call::Flush(_, page, image) => image.words(&lead, *page),
-                        _ => Vec::new(),
-                    };
-                    let mut buffer = vec![0; 8];
-                    let started = Instant::now();
-                    side.perform(call, &image, &mut buffer);
-                    seconds += started.elapsed().as_secs_f64();
-                    calls += 1;
-                }
-                AREAS.iter().for_each(|&area| lead.of_mut(area).clone_from(side.area(area)));
-            }
-            println!(
-                "{}: P = {pages}, L = {records}: {:.0} calls per second",
-                kind.name(),
-                calls as f64 / seconds
-            );
-        }
-    }
-    true
 }
