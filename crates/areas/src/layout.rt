@@ -1,0 +1,102 @@
+// Where the working words stand, in a store of n pages: what specs/Layout.antt says, for code.
+ghost use mathlib.Core.Path.{_≡_};
+ghost use Prim.Native.Nat.{_<_, _≤_};
+ghost use Rattle.pages.specs.Geometry.{maxPages, objectCount};
+ghost use Rattle.records.specs.Records.{maxRecords};
+ghost use Rattle.areas.specs.Layout.{readersAt, writersAt, unflushedAt, knownAt, prunedAt, createdAt, colourAt, workWords};
+
+// The received count, then the stable count.
+pub const COUNT_WORDS: usize = 2;
+
+pub const RECEIVED: usize = 0;
+
+pub const STABLE: usize = 1;
+
+// One word each.
+pub const REOPENING_AT: usize = 0;
+
+pub const REOPENING_PAGE_AT: usize = 1;
+
+pub const PHASE_AT: usize = 2;
+
+pub const PASS_PAGE_AT: usize = 3;
+
+pub const STEPS_AT: usize = 4;
+
+pub const ACTIVE_AT: usize = 5;
+
+// The reopening word.
+pub const RUNNING: u32 = 1;
+
+pub const FINISHED: u32 = 2;
+
+// The flag of an ended transaction's entries, above the sixteen transactions, and the largest value of a flagged mask.
+pub const FLAG: u32 = 16;
+
+pub const FLAGGED_TOP: u32 = 131071;
+
+// Colours.
+pub const WHITE: u32 = 0;
+
+pub const GREY: u32 = 1;
+
+pub const BLACK: u32 = 2;
+
+// The masks of page p.
+pub fn readers_at(n: usize, p: usize) -> usize
+    requires { ⌜ (n ≤ maxPages) × (p ≤ n) ⌝ }
+    ensures { λ r. ⌜ r ≡ readersAt n p ⌝ }
+{
+    6 + p
+}
+
+pub fn writers_at(n: usize, p: usize) -> usize
+    requires { ⌜ (n ≤ maxPages) × (p ≤ n) ⌝ }
+    ensures { λ r. ⌜ r ≡ writersAt n p ⌝ }
+{
+    6 + n + p
+}
+
+pub fn unflushed_at(n: usize, p: usize) -> usize
+    requires { ⌜ (n ≤ maxPages) × (p ≤ n) ⌝ }
+    ensures { λ r. ⌜ r ≡ unflushedAt n p ⌝ }
+{
+    6 + 2 * n + p
+}
+
+// The words of object o.
+pub fn known_at(n: usize, o: usize) -> usize
+    requires { ⌜ (n ≤ maxPages) × (1 ≤ o) × (o ≤ objectCount n) ⌝ }
+    ensures { λ r. ⌜ r ≡ knownAt n o ⌝ }
+{
+    6 + 3 * n + (o - 1)
+}
+
+pub fn pruned_at(n: usize, o: usize) -> usize
+    requires { ⌜ (n ≤ maxPages) × (1 ≤ o) × (o ≤ objectCount n) ⌝ }
+    ensures { λ r. ⌜ r ≡ prunedAt n o ⌝ }
+{
+    6 + 19 * n + (o - 1)
+}
+
+pub fn created_at(n: usize, o: usize) -> usize
+    requires { ⌜ (n ≤ maxPages) × (1 ≤ o) × (o ≤ objectCount n) ⌝ }
+    ensures { λ r. ⌜ r ≡ createdAt n o ⌝ }
+{
+    6 + 35 * n + (o - 1)
+}
+
+pub fn colour_at(n: usize, o: usize) -> usize
+    requires { ⌜ (n ≤ maxPages) × (1 ≤ o) × (o ≤ objectCount n) ⌝ }
+    ensures { λ r. ⌜ r ≡ colourAt n o ⌝ }
+{
+    6 + 51 * n + (o - 1)
+}
+
+// All working words of a store of n pages and l records.
+pub fn work_words(n: usize, l: usize) -> usize
+    requires { ⌜ (n ≤ maxPages) × (l ≤ maxRecords) ⌝ }
+    ensures { λ r. ⌜ r ≡ workWords n l ⌝ }
+{
+    6 + 67 * n
+}
