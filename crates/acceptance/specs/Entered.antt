@@ -6,11 +6,11 @@ use lib.Dec.{eqb}
 use native.Mathlib.Omega.{arith}
 use borrow.Author.Tests.{eqb-true, eq-eqb, ne-eqb}
 use Rattle.words.specs.Tests.{if, if-t, if-f, and-split, and-t, and-f, clash}
-use Rattle.areas.specs.declared.Refusal.the-variants.{Malformed, NotOpen}
-use Rattle.areas.specs.declared.Ready.the-variants.{Go, Not}
 use Rattle.areas.specs.Areas.{Areas}
+use Rattle.areas.specs.Layout.{finished}
 use Rattle.areas.specs.Ranges.{fit, inRange}
-use Rattle.areas.specs.Entry.{pages, records, reopening, wellFormed, readiness}
+use Rattle.areas.specs.Entry.{pages, records, reopening, wellFormed}
+use Rattle.acceptance.specs.Ran.{Admitted}
 use Rattle.acceptance.specs.Lengths.{Sized, sized}
 use Rattle.acceptance.specs.Working.{Ranged, ranged}
 
@@ -18,13 +18,13 @@ use Rattle.acceptance.specs.Working.{Ranged, ranged}
 pub record Entered (must own : Bool) (s : Areas) (n : ℕ) : Type 0 where
   pub sized : Sized s n
   pub own-fits : own ≡ true
-  pub finished : must ≡ true → reopening s ≡ 2
+  pub finished : must ≡ true → reopening s ≡ finished
   pub ranged : (reopening s ≡ 0 → ⊥) → Ranged s n
 
 -- of a call that needs the reopening finished: all of it
 pub record Open (s : Areas) (n : ℕ) : Type 0 where
   pub sized : Sized s n
-  pub finished : reopening s ≡ 2
+  pub finished : reopening s ≡ finished
   pub ranged : Ranged s n
 
 -- a word that is or is not 0, and the range that is asked for only where it is not
@@ -47,34 +47,30 @@ formed own s h =
       range = λ no0. range-asked (reopening s) (inRange s (pages s) (records s)) no0 (p .1);
     }
 
--- refusals 1 and 2 as one choice
-chosen : (formed finished : Bool) (m n : ℕ) → if formed (if finished (Go m) (Not NotOpen)) (Not Malformed) ≡ Go n → (formed ≡ true) × (finished ≡ true) × (m ≡ n)
-chosen true true m n e = (refl, refl, cc)
-chosen true false m n e = let z : _≡_ {A = ℕ} 0 1 = cc in absurd (omega arith)
-chosen false finished m n e = let z : _≡_ {A = ℕ} 0 1 = cc in absurd (omega arith)
-
 when-must : (must done : Bool) → not must || done ≡ true → must ≡ true → done ≡ true
 when-must true done h e = h
 when-must false done h e = clash e refl
 
-pub entered : (must own : Bool) (s : Areas) (n : ℕ) → readiness must own s ≡ Go n → Entered must own s n
-unfolding readiness
+pub entered : (must own : Bool) (s : Areas) (n : ℕ) → Admitted must own s n → Entered must own s n
 entered must own s n h =
-    let c = chosen (wellFormed own s) (not must || eqb (reopening s) 2) (pages s) n h in
-    let f = formed own s (c .0) in
-    let z = sized s n (f .lengths) (c .2) in
+    let f = formed own s (h .formed) in
+    let z = sized s n (f .lengths) (h .count) in
     record {
       sized = z;
       own-fits = f .own-fits;
-      finished = λ m. eqb-true _ _ (when-must must (eqb (reopening s) 2) (c .1) m);
-      ranged = λ no0. ranged s n (z .low) (rw (c .2) at (f .range no0));
+      finished = λ m. eqb-true _ _ (when-must must (eqb (reopening s) finished) (h .ready) m);
+      ranged = λ no0. ranged s n (z .low) (rw (h .count) at (f .range no0));
     }
 
-pub opened : (own : Bool) (s : Areas) (n : ℕ) → readiness true own s ≡ Go n → Open s n
+pub opened : (own : Bool) (s : Areas) (n : ℕ) → Admitted true own s n → Open s n
 opened own s n h =
     let e = entered true own s n h in
     let two = e .finished refl in
     record { sized = e .sized; finished = two; ranged = e .ranged (λ z. omega arith) }
+
+-- as the code finds it: a well-formed store whose reopening is finished
+pub open-formed : (own : Bool) (s : Areas) → wellFormed own s ≡ true → reopening s ≡ finished → Open s (pages s)
+open-formed own s h e = opened own s (pages s) (record { formed = h; ready = eq-eqb _ _ e; count = refl })
 
 -- how the tests give the answer, as the code finds it: f is its answer on the lengths
 
@@ -93,21 +89,3 @@ formed-range own s e h no0 = sym (and-t _ _ (rw e at h) ∙ if-f _ _ _ (ne-eqb _
 
 pub formed-sized : (own : Bool) (s : Areas) → wellFormed own s ≡ true → Sized s (pages s)
 formed-sized own s h = sized s (pages s) (formed own s h .lengths) refl
-
-pub ready-malformed : (must own : Bool) (s : Areas) → wellFormed own s ≡ false → Not Malformed ≡ readiness must own s
-unfolding readiness
-ready-malformed must own s h = sym (if-f _ _ _ h)
-
--- 'reopening not finished' where it has to be
-unfinished : (must done : Bool) → not must || done ≡ not (must && not done)
-unfinished true true = refl
-unfinished true false = refl
-unfinished false done = refl
-
-pub ready-closed : (must own : Bool) (s : Areas) → wellFormed own s ≡ true → must && not (eqb (reopening s) 2) ≡ true → Not NotOpen ≡ readiness must own s
-unfolding readiness
-ready-closed must own s h o = sym (if-t _ _ _ h ∙ if-f _ _ _ (unfinished must (eqb (reopening s) 2) ∙ ap not o))
-
-pub ready-go : (must own : Bool) (s : Areas) → wellFormed own s ≡ true → must && not (eqb (reopening s) 2) ≡ false → Go (pages s) ≡ readiness must own s
-unfolding readiness
-ready-go must own s h o = sym (if-t _ _ _ h ∙ if-t _ _ _ (unfinished must (eqb (reopening s) 2) ∙ ap not o))

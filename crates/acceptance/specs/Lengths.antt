@@ -7,22 +7,25 @@ use lib.Dec.{leb, eqb}
 use native.Mathlib.Omega.{arith}
 use borrow.Author.Tests.{leb-true, eqb-true}
 use Rattle.words.specs.Tests.{and-split}
-use Rattle.areas.specs.Areas.{Areas}
+use Rattle.pages.specs.Geometry.{pageWords, maxPages}
+use Rattle.records.specs.Records.{recordWords, maxRecords}
+use Rattle.areas.specs.Areas.{Areas, countWords}
+use Rattle.areas.specs.Layout.{HasTables, workWords}
 use Rattle.areas.specs.Ranges.{pagesIn, recordsIn, whole, lengthsFit, fit}
 use Rattle.areas.specs.Entry.{pages, records}
 
 -- of the lengths themselves, as the code has them: n pages and l records
 pub record Lengths (s c r g k w : ℕ) : Type 0 where
   pub low : 1 ≤ pagesIn s
-  pub top : pagesIn s ≤ 256
-  pub stored-len : s ≡ 129 * pagesIn s
-  pub copies-len : c ≡ 129 * pagesIn s
-  pub received-len : r ≡ 129 * pagesIn s
+  pub top : pagesIn s ≤ maxPages
+  pub stored-len : s ≡ pageWords * pagesIn s
+  pub copies-len : c ≡ pageWords * pagesIn s
+  pub received-len : r ≡ pageWords * pagesIn s
   pub log-low : 1 ≤ recordsIn g
-  pub log-top : recordsIn g ≤ 4096
-  pub log-len : g ≡ 6 * recordsIn g
-  pub counts-len : k ≡ 2
-  pub work-len : w ≡ 6 + 67 * pagesIn s
+  pub log-top : recordsIn g ≤ maxRecords
+  pub log-len : g ≡ recordWords * recordsIn g
+  pub counts-len : k ≡ countWords
+  pub work-len : w ≡ workWords (pagesIn s) (recordsIn g)
 
 record Whole (l unit top : ℕ) : Type 0 where
   low : 1 ≤ l / unit
@@ -43,8 +46,8 @@ lengths-facts s c r g k w h =
     let h3 = and-split _ _ (h4 .0) in
     let h2 = and-split _ _ (h3 .0) in
     let h1 = and-split _ _ (h2 .0) in
-    let pw = whole-facts s 129 256 (h1 .0) in
-    let rw′ = whole-facts g 6 4096 (h3 .1) in
+    let pw = whole-facts s pageWords maxPages (h1 .0) in
+    let rw′ = whole-facts g recordWords maxRecords (h3 .1) in
     let c-len : c ≡ s = eqb-true _ _ (h1 .1) in
     let r-len : r ≡ s = eqb-true _ _ (h2 .1) in
     record {
@@ -64,15 +67,16 @@ lengths-facts s c r g k w h =
 pub record Sized (s : Areas) (n : ℕ) : Type 0 where
   pub count : pages s ≡ n
   pub low : 1 ≤ n
-  pub top : n ≤ 256
-  pub stored-len : length (s .stored) ≡ 129 * n
-  pub copies-len : length (s .copies) ≡ 129 * n
-  pub received-len : length (s .received) ≡ 129 * n
+  pub top : n ≤ maxPages
+  pub stored-len : length (s .stored) ≡ pageWords * n
+  pub copies-len : length (s .copies) ≡ pageWords * n
+  pub received-len : length (s .received) ≡ pageWords * n
   pub log-low : 1 ≤ records s
-  pub log-top : records s ≤ 4096
-  pub log-len : length (s .log) ≡ 6 * records s
-  pub counts-len : length (s .counts) ≡ 2
-  pub work-len : length (s .work) ≡ 6 + 67 * n
+  pub log-top : records s ≤ maxRecords
+  pub log-len : length (s .log) ≡ recordWords * records s
+  pub counts-len : length (s .counts) ≡ countWords
+  pub work-len : length (s .work) ≡ workWords n (records s)
+  pub tables : HasTables (s .work) n
 
 pub sized : (s : Areas) (n : ℕ) → fit s ≡ true → pages s ≡ n → Sized s n
 sized s n h e =
@@ -89,4 +93,5 @@ sized s n h e =
       log-len = l .log-len;
       counts-len = l .counts-len;
       work-len = omega arith;
+      tables = (omega arith, omega arith);
     }

@@ -2,7 +2,6 @@
 pub mod Lengths
 pub mod Working
 pub mod Entered
-pub mod Needs
 pub mod Ran
 pub mod Room
 pub mod Transactions

@@ -7,30 +7,30 @@ use lib.Dec.{leb, eqb}
 use borrow.Author.Tests.{eqb-true, eqb-false, not-true}
 use Rattle.words.specs.Tests.{if, if-t, if-f, by-bool, or-cases, clash}
 use Rattle.words.specs.Bits.{slotsSet}
-use Rattle.areas.specs.declared.Check.the-variants.{Pass}
-use Rattle.areas.specs.Answers.{accepted, need-passed}
+use Rattle.pages.specs.Geometry.{objectCount}
+use Rattle.areas.specs.declared.Check.the-variants.{Accept}
+use Rattle.areas.specs.Answers.{accepted, verdict, passed}
 use Rattle.areas.specs.Areas.{Areas, Out, done, withWork}
 use Rattle.areas.specs.Layout.{phaseAt, passPageAt}
 use Rattle.areas.specs.Tables.{at, isMarking, passFirst, withPass, stepsNext}
-use Rattle.areas.specs.Entry.{readiness}
-use Rattle.calls.specs.Room.{roomBeyond}
-use Rattle.calls.specs.Pass.{passCheck, passStarted, callPass, lowestGrey, scanned, marked, freedMap, advanced, sweepCheck, sweptPage, swept, stepCheck, callStep}
+use Rattle.calls.specs.Room.{roomBeyond, sweepRoom}
+use Rattle.calls.specs.Pass.{passTests, passStarted, callPass, lowestGrey, scanned, marked, freedMap, advanced, sweepTests, sweptPage, swept, stepTests, callStep}
 use Rattle.acceptance.specs.Room.{Room, room-facts}
 use Rattle.acceptance.specs.Ran.{Passed, Outcome, outcome, outcome-done, Keeps, checked-ran, checked-keeps}
 
 pub record PassFacts (s : Areas) : Type 0 where
   pub none-runs : at (s .work) phaseAt ≡ 0
 
-pub pass-outcome : (s : Areas) → Outcome s (readiness true true s) (λ n. passCheck s) (callPass s) (λ n. done 0 (withWork s (passStarted (s .work) n)))
+pub pass-outcome : (s : Areas) → Outcome true true s (λ n. passTests s) (callPass s) (λ n. done 0 (withWork s (passStarted (s .work) n)))
 unfolding callPass
-pass-outcome s = outcome-done _ _ _ (λ n. 0) (λ n. withWork s (passStarted (s .work) n))
+pass-outcome s = outcome-done _ _ _ _ (λ n. 0) (λ n. withWork s (passStarted (s .work) n))
 
 pub record StepFacts (s : Areas) : Type 0 where
   pub one-runs : at (s .work) phaseAt ≡ 0 → ⊥
 
-pub step-facts : (s : Areas) → stepCheck s ≡ Pass → StepFacts s
-unfolding stepCheck
-step-facts s h = record { one-runs = eqb-false _ _ (not-true _ (need-passed _ _ _ h .0)) }
+pub step-facts : (s : Areas) → verdict (stepTests s) ≡ Accept → StepFacts s
+unfolding stepTests
+step-facts s h = record { one-runs = eqb-false _ _ (not-true _ (passed _ 0 h)) }
 
 -- a marking step scans an object, or turns to sweeping where none is grey
 abbrev pub scanning : Areas → ℕ → Out
@@ -40,11 +40,11 @@ scanning s n = let w = s .work in let o = lowestGrey w n in
 abbrev pub turning : Areas → ℕ → Out
 turning s n = let w = s .work in done 0 (withWork s (withPass w 2 (passFirst w n) (stepsNext w n)))
 
-pub marked-scans : (s : Areas) (n : ℕ) → leb (lowestGrey (s .work) n) (16 * n) ≡ true → marked s n ≡ scanning s n
+pub marked-scans : (s : Areas) (n : ℕ) → leb (lowestGrey (s .work) n) (objectCount n) ≡ true → marked s n ≡ scanning s n
 unfolding marked
 marked-scans s n e = if-t _ _ _ e
 
-pub marked-turns : (s : Areas) (n : ℕ) → leb (lowestGrey (s .work) n) (16 * n) ≡ false → marked s n ≡ turning s n
+pub marked-turns : (s : Areas) (n : ℕ) → leb (lowestGrey (s .work) n) (objectCount n) ≡ false → marked s n ≡ turning s n
 unfolding marked
 marked-turns s n e = if-f _ _ _ e
 
@@ -54,7 +54,7 @@ if-keeps s false a c h k = k
 
 pub marked-keeps : (s : Areas) (n : ℕ) → Keeps s (marked s n)
 unfolding marked
-marked-keeps s n = if-keeps s (leb (lowestGrey (s .work) n) (16 * n)) (scanning s n) (turning s n) (λ e. clash refl e) (λ e. clash refl e)
+marked-keeps s n = if-keeps s (leb (lowestGrey (s .work) n) (objectCount n)) (scanning s n) (turning s n) (λ e. clash refl e) (λ e. clash refl e)
 
 -- a sweeping step, of the page that the pass record names
 abbrev pub sweepMapOf : Areas → ℕ → ℕ
@@ -70,40 +70,40 @@ sweeping s n =
 
 -- 'a sweep 1', 'if there are any' slots to free
 pub record SweepFacts (s : Areas) (m : ℕ) : Type 0 where
-  pub room : (m ≡ 0 → ⊥) → Room s 1
+  pub room : (m ≡ 0 → ⊥) → Room s sweepRoom
 
-sweep-room : (s : Areas) (m : ℕ) → (eqb m 0 ≡ true) ⊎ (roomBeyond s 1 ≡ true) → (m ≡ 0 → ⊥) → Room s 1
+sweep-room : (s : Areas) (m : ℕ) → (eqb m 0 ≡ true) ⊎ (roomBeyond s sweepRoom ≡ true) → (m ≡ 0 → ⊥) → Room s sweepRoom
 sweep-room s m (inl z) no0 = absurd (no0 (eqb-true m 0 z))
-sweep-room s m (inr r) no0 = room-facts s 1 r
+sweep-room s m (inr r) no0 = room-facts s sweepRoom r
 
-pub sweep-facts : (s : Areas) (m : ℕ) → sweepCheck s m ≡ Pass → SweepFacts s m
-unfolding sweepCheck
-sweep-facts s m h = record { room = sweep-room s m (or-cases (eqb m 0) (roomBeyond s 1) (need-passed _ _ _ h .0)) }
+pub sweep-facts : (s : Areas) (m : ℕ) → verdict (sweepTests s m) ≡ Accept → SweepFacts s m
+unfolding sweepTests
+sweep-facts s m h = record { room = sweep-room s m (or-cases (eqb m 0) (roomBeyond s sweepRoom) (passed _ 0 h)) }
 
-pub swept-ran : (s : Areas) (n : ℕ) → accepted (swept s n .answer) ≡ true → Passed (sweepCheck s (sweepMapOf s n)) (swept s n) (sweeping s n)
+pub swept-ran : (s : Areas) (n : ℕ) → accepted (swept s n .answer) ≡ true → Passed (verdict (sweepTests s (sweepMapOf s n))) (swept s n) (sweeping s n)
 unfolding swept
-swept-ran s n h = checked-ran (sweepCheck s (sweepMapOf s n)) s (sweeping s n) h
+swept-ran s n h = checked-ran (verdict (sweepTests s (sweepMapOf s n))) s (sweeping s n) h
 
 pub swept-keeps : (s : Areas) (n : ℕ) → Keeps s (swept s n)
 unfolding swept
-swept-keeps s n = checked-keeps (sweepCheck s (sweepMapOf s n)) s (sweeping s n) (λ e. clash refl e)
+swept-keeps s n = checked-keeps (verdict (sweepTests s (sweepMapOf s n))) s (sweeping s n) (λ e. clash refl e)
 
 -- 'One pass step advances the pass record by one object or one page.'
 abbrev pub stepped : Areas → ℕ → Out
 stepped s n = if (isMarking (s .work)) (marked s n) (swept s n)
 
-pub step-outcome : (s : Areas) → Outcome s (readiness true true s) (λ n. stepCheck s) (callStep s) (stepped s)
+pub step-outcome : (s : Areas) → Outcome true true s (λ n. stepTests s) (callStep s) (stepped s)
 unfolding callStep
-step-outcome s = outcome _ _ _ (stepped s) (λ n. if-keeps s (isMarking (s .work)) (marked s n) (swept s n) (marked-keeps s n) (swept-keeps s n))
+step-outcome s = outcome _ _ _ _ (stepped s) (λ n. if-keeps s (isMarking (s .work)) (marked s n) (swept s n) (marked-keeps s n) (swept-keeps s n))
 
 -- the three ways that an accepted step goes
 pub data StepWay (s : Areas) (n : ℕ) (o : Out) : Type 0 where
-  scans : isMarking (s .work) ≡ true → leb (lowestGrey (s .work) n) (16 * n) ≡ true → o ≡ scanning s n → StepWay s n o
-  turns : isMarking (s .work) ≡ true → leb (lowestGrey (s .work) n) (16 * n) ≡ false → o ≡ turning s n → StepWay s n o
-  sweeps : isMarking (s .work) ≡ false → sweepCheck s (sweepMapOf s n) ≡ Pass → o ≡ sweeping s n → StepWay s n o
+  scans : isMarking (s .work) ≡ true → leb (lowestGrey (s .work) n) (objectCount n) ≡ true → o ≡ scanning s n → StepWay s n o
+  turns : isMarking (s .work) ≡ true → leb (lowestGrey (s .work) n) (objectCount n) ≡ false → o ≡ turning s n → StepWay s n o
+  sweeps : isMarking (s .work) ≡ false → verdict (sweepTests s (sweepMapOf s n)) ≡ Accept → o ≡ sweeping s n → StepWay s n o
 
 step-marks : (s : Areas) (n : ℕ) (o : Out) → isMarking (s .work) ≡ true → o ≡ marked s n → StepWay s n o
-step-marks s n o e h = by-bool (leb (lowestGrey (s .work) n) (16 * n)) (λ g. scans e g (h ∙ marked-scans s n g)) (λ g. turns e g (h ∙ marked-turns s n g))
+step-marks s n o e h = by-bool (leb (lowestGrey (s .work) n) (objectCount n)) (λ g. scans e g (h ∙ marked-scans s n g)) (λ g. turns e g (h ∙ marked-turns s n g))
 
 step-sweeps : (s : Areas) (n : ℕ) (o : Out) → isMarking (s .work) ≡ false → accepted (o .answer) ≡ true → o ≡ swept s n → StepWay s n o
 step-sweeps s n o e a h = let p = swept-ran s n (sym (ap (λ (x : Out). accepted (x .answer)) h) ∙ a) in sweeps e (p .passed) (h ∙ p .gives)

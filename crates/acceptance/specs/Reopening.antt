@@ -9,15 +9,14 @@ use Rattle.words.specs.Tests.{if, all, and-split}
 use Rattle.pages.specs.Soundness.{areaSound, freeZero}
 use Rattle.records.specs.Order.{logSound}
 use Rattle.records.specs.Recovery.{recovered, recoverable}
-use Rattle.areas.specs.declared.Check.the-variants.{Pass}
-use Rattle.areas.specs.Answers.{accepted, need-passed}
+use Rattle.areas.specs.declared.Check.the-variants.{Accept}
+use Rattle.areas.specs.Answers.{accepted, verdict, passed}
 use Rattle.areas.specs.Areas.{Areas, done, stableCount}
-use Rattle.areas.specs.Layout.{reopeningPageAt}
+use Rattle.areas.specs.Layout.{reopeningPageAt, running}
 use Rattle.areas.specs.Tables.{at}
-use Rattle.areas.specs.Entry.{pages, records, reopening, readiness}
-use Rattle.calls.specs.Reopening.{reopenCheck, reopened, callReopen, restepCheck, pageStored, reopeningOver, callRestep}
+use Rattle.areas.specs.Entry.{pages, records, reopening}
+use Rattle.calls.specs.Reopening.{reopenTests, reopened, callReopen, restepTests, pageStored, reopeningOver, callRestep}
 use Rattle.acceptance.specs.Lengths.{Sized, sized}
-use Rattle.acceptance.specs.Needs.{passed-2}
 use Rattle.acceptance.specs.Ran.{Passed, Outcome, outcome-done, Keeps, done-keeps, checked-ran, checked-keeps}
 
 -- stored pages and stable records that are sound, and give sound pages
@@ -38,33 +37,32 @@ pub record ReopenFacts (s : Areas) : Type 0 where
   pub stable-le : stableCount s ≤ records s
   pub recovers : recoverable (pages s) (s .stored) (s .log) (stableCount s) ≡ true
 
-pub reopen-facts : (s : Areas) → reopenCheck s ≡ Pass → ReopenFacts s
-unfolding reopenCheck
+pub reopen-facts : (s : Areas) → verdict (reopenTests s) ≡ Accept → ReopenFacts s
+unfolding reopenTests
 reopen-facts s h =
-    let held = passed-2 _ _ _ _ h in
-    let r = and-split (leb (stableCount s) (records s)) (recoverable (pages s) (s .stored) (s .log) (stableCount s)) (held .1) in
-    record { sized = sized s (pages s) (held .0) refl; stable-le = leb-true _ _ (r .0); recovers = r .1 }
+    let r = and-split (leb (stableCount s) (records s)) (recoverable (pages s) (s .stored) (s .log) (stableCount s)) (passed _ 1 h) in
+    record { sized = sized s (pages s) (passed _ 0 h) refl; stable-le = leb-true _ _ (r .0); recovers = r .1 }
 
-pub reopen-ran : (s : Areas) → accepted (callReopen s .answer) ≡ true → Passed (reopenCheck s) (callReopen s) (done 0 (reopened s))
+pub reopen-ran : (s : Areas) → accepted (callReopen s .answer) ≡ true → Passed (verdict (reopenTests s)) (callReopen s) (done 0 (reopened s))
 unfolding callReopen
-reopen-ran s h = checked-ran (reopenCheck s) s (done 0 (reopened s)) h
+reopen-ran s h = checked-ran (verdict (reopenTests s)) s (done 0 (reopened s)) h
 
 pub reopen-keeps : (s : Areas) → Keeps s (callReopen s)
 unfolding callReopen
-reopen-keeps s = checked-keeps (reopenCheck s) s (done 0 (reopened s)) (done-keeps s 0 (reopened s))
+reopen-keeps s = checked-keeps (verdict (reopenTests s)) s (done 0 (reopened s)) (done-keeps s 0 (reopened s))
 
 pub record RestepFacts (s : Areas) : Type 0 where
-  pub running : reopening s ≡ 1
+  pub running : reopening s ≡ running
 
-pub restep-facts : (s : Areas) → restepCheck s ≡ Pass → RestepFacts s
-unfolding restepCheck
-restep-facts s h = record { running = eqb-true _ _ (need-passed _ _ _ h .0) }
+pub restep-facts : (s : Areas) → verdict (restepTests s) ≡ Accept → RestepFacts s
+unfolding restepTests
+restep-facts s h = record { running = eqb-true _ _ (passed _ 0 h) }
 
 -- the areas after a step: of the next page, or of the log
 abbrev pub restepped : Areas → ℕ → Areas
 restepped s n = let p = at (s .work) reopeningPageAt in if (ltb p n) (pageStored s p) (reopeningOver s)
 
 pub restep-outcome : (s : Areas) →
-    Outcome s (readiness false true s) (λ n. restepCheck s) (callRestep s) (λ n. done (at (s .work) reopeningPageAt) (restepped s n))
+    Outcome false true s (λ n. restepTests s) (callRestep s) (λ n. done (at (s .work) reopeningPageAt) (restepped s n))
 unfolding callRestep
-restep-outcome s = outcome-done _ _ _ (λ n. at (s .work) reopeningPageAt) (restepped s)
+restep-outcome s = outcome-done _ _ _ _ (λ n. at (s .work) reopeningPageAt) (restepped s)

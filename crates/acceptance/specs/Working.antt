@@ -1,6 +1,6 @@
 -- Document 01, 'Working ranges': what working words in range say, table by table, and of everything that refusal 1 looks at.
 -- Assumes nothing.
-use Prim.Native.Nat.{ℕ, suc, _+_, _*_, _-_, _<_, _≤_}
+use Prim.Native.Nat.{ℕ, suc, _+_, _-_, _^_, _<_, _≤_}
 use mathlib.Core.Path.{_≡_, subst}
 use mathlib.Core.Bool.{true}
 use mathlib.Core.List.{List, _∷_}
@@ -10,10 +10,12 @@ use native.Mathlib.Omega.{arith}
 use borrow.Author.Tests.{leb-true}
 use Rattle.words.specs.Tests.{all-at, and-split}
 use Rattle.words.specs.Spans.{upTo}
+use Rattle.pages.specs.Geometry.{objectCount}
 use Rattle.pages.specs.Soundness.{areaSound}
+use Rattle.records.specs.Records.{txnCount, maskTop}
 use Rattle.records.specs.Soundness.{recordsSound}
 use Rattle.areas.specs.Areas.{Areas, receivedCount, stableCount}
-use Rattle.areas.specs.Layout.{Row, reopeningAt, reopeningPageAt, phaseAt, passPageAt, stepsAt, activeAt, readersAt, writersAt, unflushedAt, knownAt, prunedAt, createdAt, colourAt}
+use Rattle.areas.specs.Layout.{Row, reopeningAt, reopeningPageAt, phaseAt, passPageAt, stepsAt, activeAt, readersAt, writersAt, unflushedAt, knownAt, prunedAt, createdAt, colourAt, finished, flaggedTop, stepsTop, colourTop}
 use Rattle.areas.specs.Tables.{at}
 use Rattle.areas.specs.Ranges.{rowsInRange, workInRange, countsInRange, inRange}
 use Rattle.areas.specs.Entry.{records}
@@ -28,19 +30,19 @@ up-to-within w a n top i h l u = subst (λ (j : ℕ). at w j ≤ top) (omega ari
 
 -- one field for each row of the layout
 pub record Working (w : List ℕ) (n : ℕ) : Type 0 where
-  pub reopening-word : at w reopeningAt ≤ 2
+  pub reopening-word : at w reopeningAt ≤ finished
   pub reopening-page : at w reopeningPageAt ≤ n
   pub phase : at w phaseAt ≤ 2
   pub pass-page : at w passPageAt < n
-  pub steps : at w stepsAt ≤ 17 * n
-  pub active : at w activeAt < 65536
-  pub readers : (p : ℕ) → p < n → at w (readersAt n p) < 65536
-  pub writers : (p : ℕ) → p < n → at w (writersAt n p) < 65536
-  pub unflushed : (p : ℕ) → p < n → at w (unflushedAt n p) < 65536
-  pub known : (o : ℕ) → 1 ≤ o → o ≤ 16 * n → at w (knownAt n o) < 65536
-  pub pruned : (o : ℕ) → 1 ≤ o → o ≤ 16 * n → at w (prunedAt n o) < 131072
-  pub created : (o : ℕ) → 1 ≤ o → o ≤ 16 * n → at w (createdAt n o) < 131072
-  pub colours : (o : ℕ) → 1 ≤ o → o ≤ 16 * n → at w (colourAt n o) ≤ 2
+  pub steps : at w stepsAt ≤ stepsTop n
+  pub active : at w activeAt < 2 ^ txnCount
+  pub readers : (p : ℕ) → p < n → at w (readersAt n p) < 2 ^ txnCount
+  pub writers : (p : ℕ) → p < n → at w (writersAt n p) < 2 ^ txnCount
+  pub unflushed : (p : ℕ) → p < n → at w (unflushedAt n p) < 2 ^ txnCount
+  pub known : (o : ℕ) → 1 ≤ o → o ≤ objectCount n → at w (knownAt n o) < 2 ^ txnCount
+  pub pruned : (o : ℕ) → 1 ≤ o → o ≤ objectCount n → at w (prunedAt n o) < 2 ^ (txnCount + 1)
+  pub created : (o : ℕ) → 1 ≤ o → o ≤ objectCount n → at w (createdAt n o) < 2 ^ (txnCount + 1)
+  pub colours : (o : ℕ) → 1 ≤ o → o ≤ objectCount n → at w (colourAt n o) ≤ colourTop
 
 -- a row whose words are in range, and the rows after it
 row-facts : (w : List ℕ) (r : Row) (rs : List Row) → rowsInRange w (r ∷ rs) ≡ true →
@@ -52,9 +54,9 @@ row-facts w r rs h = let p = and-split (upTo w (r .first) (r .many) (r .top)) (r
 below : (a top : ℕ) → a ≤ top → a < suc top
 below a top h = omega arith
 
-pub in-rows : (w : List ℕ) (n : ℕ) → 1 ≤ n → workInRange w n ≡ true → Working w n
+pub in-rows : (w : List ℕ) (n l : ℕ) → 1 ≤ n → workInRange w n l ≡ true → Working w n
 unfolding workInRange
-in-rows w n low h =
+in-rows w n l low h =
     let r1 = row-facts w _ _ h in
     let r2 = row-facts w _ _ (r1 .1) in
     let r3 = row-facts w _ _ (r2 .1) in
@@ -74,13 +76,13 @@ in-rows w n low h =
       phase = r3 .0 phaseAt (omega arith) (omega arith);
       pass-page = (let e = below _ (n - 1) (r4 .0 passPageAt (omega arith) (omega arith)) in omega arith);
       steps = r5 .0 stepsAt (omega arith) (omega arith);
-      active = below _ 65535 (r6 .0 activeAt (omega arith) (omega arith));
-      readers = λ p l. below _ 65535 (r7 .0 (readersAt n p) (omega arith) (omega arith));
-      writers = λ p l. below _ 65535 (r8 .0 (writersAt n p) (omega arith) (omega arith));
-      unflushed = λ p l. below _ 65535 (r9 .0 (unflushedAt n p) (omega arith) (omega arith));
-      known = λ o a b. below _ 65535 (r10 .0 (knownAt n o) (omega arith) (omega arith));
-      pruned = λ o a b. below _ 131071 (r11 .0 (prunedAt n o) (omega arith) (omega arith));
-      created = λ o a b. below _ 131071 (r12 .0 (createdAt n o) (omega arith) (omega arith));
+      active = below _ maskTop (r6 .0 activeAt (omega arith) (omega arith));
+      readers = λ p l. below _ maskTop (r7 .0 (readersAt n p) (omega arith) (omega arith));
+      writers = λ p l. below _ maskTop (r8 .0 (writersAt n p) (omega arith) (omega arith));
+      unflushed = λ p l. below _ maskTop (r9 .0 (unflushedAt n p) (omega arith) (omega arith));
+      known = λ o a b. below _ maskTop (r10 .0 (knownAt n o) (omega arith) (omega arith));
+      pruned = λ o a b. below _ flaggedTop (r11 .0 (prunedAt n o) (omega arith) (omega arith));
+      created = λ o a b. below _ flaggedTop (r12 .0 (createdAt n o) (omega arith) (omega arith));
       colours = λ o a b. r13 .0 (colourAt n o) (omega arith) (omega arith);
     }
 
@@ -109,7 +111,7 @@ ranged s n low h =
     record {
       stable-le = k .0;
       received-le = k .1;
-      working = in-rows (s .work) n low (h1 .1);
+      working = in-rows (s .work) n (records s) low (h1 .1);
       received-sound = h2 .1;
       copies-sound = h3 .1;
       records-sound = h4 .1;
