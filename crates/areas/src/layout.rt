@@ -1,8 +1,7 @@
 // Where the working words stand, in a store of n pages: what specs/Layout.antt says, for code.
 ghost use mathlib.Core.Path.{_≡_};
-ghost use Prim.Native.Nat.{_<_, _≤_};
+ghost use Prim.Native.Nat.{_^_, _<_, _≤_};
 ghost use Rattle.pages.specs.Geometry.{maxPages, objectCount};
-ghost use Rattle.records.specs.Records.{maxRecords};
 ghost use Rattle.areas.specs.Layout.{readersAt, writersAt, unflushedAt, knownAt, prunedAt, createdAt, colourAt, workWords};
 
 // The received count, then the stable count.
@@ -31,9 +30,16 @@ pub const RUNNING: u32 = 1;
 pub const FINISHED: u32 = 2;
 
 // The flag of an ended transaction's entries, above the sixteen transactions, and the largest value of a flagged mask.
-pub const FLAG: u32 = 16;
+pub const FLAG: usize = 16;
 
 pub const FLAGGED_TOP: u32 = 131071;
+
+// The pass phase, and the largest step number for each page.
+pub const MARKING: u32 = 1;
+
+pub const SWEEPING: u32 = 2;
+
+pub const STEPS_PER_PAGE: u32 = 17;
 
 // Colours.
 pub const WHITE: u32 = 0;
@@ -93,9 +99,9 @@ pub fn colour_at(n: usize, o: usize) -> usize
     6 + 51 * n + (o - 1)
 }
 
-// All working words of a store of n pages and l records.
+// All working words of a store of n pages and l records, also of more than a store has: as many as fit into an address space.
 pub fn work_words(n: usize, l: usize) -> usize
-    requires { ⌜ (n ≤ maxPages) × (l ≤ maxRecords) ⌝ }
+    requires { ⌜ (n < 2 ^ 57) × (l < 2 ^ 62) ⌝ }
     ensures { λ r. ⌜ r ≡ workWords n l ⌝ }
 {
     6 + 67 * n

@@ -24,11 +24,11 @@ module _ (c r g k w : List ℕ) (n l : ℕ) where
   range-stops e = rw e
 
   module _ (counts : countsInRange k l ≡ true) where
-    pub work-stops : workInRange w n ≡ false → false ≡ rangeOf c r g k w n l
+    pub work-stops : workInRange w n l ≡ false → false ≡ rangeOf c r g k w n l
     unfolding inRange
     work-stops e = rw (counts, e)
 
-    module _ (work : workInRange w n ≡ true) where
+    module _ (work : workInRange w n l ≡ true) where
       pub received-stops : areaSound r n ≡ false → false ≡ rangeOf c r g k w n l
       unfolding inRange
       received-stops e = rw (counts, work, e)

@@ -9,7 +9,9 @@ use native.Mathlib.Omega.{arith}
 use Rattle.words.specs.Tests.{all, all-none, all-next, all-split, all-same, and-assoc, and-true}
 use Rattle.words.specs.Spans.{upTo}
 use Rattle.areas.specs.Tables.{at}
-use Rattle.areas.specs.Layout.{activeAt, readersAt, writersAt, unflushedAt, knownAt, prunedAt, createdAt, colourAt}
+use Rattle.pages.specs.Geometry.{objectCount}
+use Rattle.records.specs.Records.{maskTop}
+use Rattle.areas.specs.Layout.{finished, flaggedTop, stepsTop, colourTop, reopeningAt, reopeningPageAt, phaseAt, passPageAt, stepsAt, activeAt, readersAt, writersAt, unflushedAt, knownAt, prunedAt, createdAt, colourAt}
 use Rattle.areas.specs.Ranges.{rowsInRange, workInRange}
 
 pub up-to-none : (w : List ℕ) (a top : ℕ) → true ≡ upTo w a 0 top
@@ -28,6 +30,10 @@ pub up-to-one : (w : List ℕ) (a top : ℕ) → leb (at w a) top ≡ upTo w a 1
 unfolding upTo all
 up-to-one w a top = let e : a ≡ a + 0 = omega arith in ap (λ (i : ℕ). leb (at w i) top) e
 
+-- a run by other names of its place and length
+pub up-to-as : (w : List ℕ) (a b n m top : ℕ) {ok : Bool} → ok ≡ upTo w a n top → a ≡ b → n ≡ m → ok ≡ upTo w b m top
+up-to-as w a b n m top e f g = e ∙ rw (f, g)
+
 -- two runs that follow one another are one run
 pub up-to-join : (w : List ℕ) (a m b k n top : ℕ) → b ≡ a + m → n ≡ m + k → upTo w a m top && upTo w b k top ≡ upTo w a n top
 unfolding upTo
@@ -39,44 +45,62 @@ up-to-join w a m b k n top e f =
     (λ j l. ap (λ (i : ℕ). leb (getD w i 0) top) (omega arith))))
 
 -- the masks of transactions are one run, and the flagged tables another
-masks : (w : List ℕ) (n : ℕ) →
-    upTo w activeAt 1 65535
-    && upTo w (readersAt n 0) n 65535
-    && upTo w (writersAt n 0) n 65535
-    && upTo w (unflushedAt n 0) n 65535
-    && upTo w (knownAt n 1) (16 * n) 65535
-    ≡ upTo w 5 (1 + 19 * n) 65535
-masks w n =
-    ap (λ (x : Bool). x && upTo w (writersAt n 0) n 65535 && upTo w (unflushedAt n 0) n 65535 && upTo w (knownAt n 1) (16 * n) 65535)
-    (up-to-join w 5 1 (readersAt n 0) n (1 + n) 65535 (omega arith) (omega arith))
-    ∙ ap (λ (x : Bool). x && upTo w (unflushedAt n 0) n 65535 && upTo w (knownAt n 1) (16 * n) 65535)
-    (up-to-join w 5 (1 + n) (writersAt n 0) n (1 + 2 * n) 65535 (omega arith) (omega arith))
-    ∙ ap (λ (x : Bool). x && upTo w (knownAt n 1) (16 * n) 65535)
-    (up-to-join w 5 (1 + 2 * n) (unflushedAt n 0) n (1 + 3 * n) 65535 (omega arith) (omega arith))
-    ∙ up-to-join w 5 (1 + 3 * n) (knownAt n 1) (16 * n) (1 + 19 * n) 65535 (omega arith) (omega arith)
+abbrev pub maskWords : ℕ → ℕ
+maskWords n = prunedAt n 1 - activeAt
 
-flagged : (w : List ℕ) (n : ℕ) → upTo w (prunedAt n 1) (16 * n) 131071 && upTo w (createdAt n 1) (16 * n) 131071 ≡ upTo w (6 + 19 * n) (32 * n) 131071
-flagged w n = up-to-join w (prunedAt n 1) (16 * n) (createdAt n 1) (16 * n) (32 * n) 131071 (omega arith) (omega arith) ∙ ap (λ (a : ℕ). upTo w a (32 * n) 131071) (omega arith)
+abbrev pub flaggedWords : ℕ → ℕ
+flaggedWords n = colourAt n 1 - prunedAt n 1
 
--- the tests as the code makes them: five words, and three runs with the answers x, y and z
-work-scan : (w : List ℕ) (n : ℕ) {x y z : Bool} → x ≡ upTo w 5 (1 + 19 * n) 65535 → y ≡ upTo w (6 + 19 * n) (32 * n) 131071 →
-    z ≡ upTo w (6 + 51 * n) (16 * n) 2 →
-    leb (at w 0) 2 && leb (at w 1) n && leb (at w 2) 2 && leb (at w 3) (n - 1) && leb (at w 4) (17 * n) && x && y && z ≡ workInRange w n
-unfolding workInRange rowsInRange
-work-scan w n x y z =
-    let c : upTo w (6 + 51 * n) (16 * n) 2 ≡ upTo w (colourAt n 1) (16 * n) 2 = ap (λ (a : ℕ). upTo w a (16 * n) 2) (omega arith) in
-    rw (x ∙ sym (masks w n), y ∙ sym (flagged w n), z ∙ c, up-to-one w 0 2, up-to-one w 1 n, up-to-one w 2 2, up-to-one w 3 (n - 1), up-to-one w 4 (17 * n))
-    (simp (and-assoc, and-true))
+masks : (w : List ℕ) (n top : ℕ) →
+    upTo w activeAt 1 top
+    && upTo w (readersAt n 0) n top
+    && upTo w (writersAt n 0) n top
+    && upTo w (unflushedAt n 0) n top
+    && upTo w (knownAt n 1) (objectCount n) top
+    ≡ upTo w activeAt (maskWords n) top
+masks w n top =
+    ap (λ (x : Bool). x && upTo w (writersAt n 0) n top && upTo w (unflushedAt n 0) n top && upTo w (knownAt n 1) (objectCount n) top)
+    (up-to-join w activeAt 1 (readersAt n 0) n (1 + n) top (omega arith) (omega arith))
+    ∙ ap (λ (x : Bool). x && upTo w (unflushedAt n 0) n top && upTo w (knownAt n 1) (objectCount n) top)
+    (up-to-join w activeAt (1 + n) (writersAt n 0) n (1 + 2 * n) top (omega arith) (omega arith))
+    ∙ ap (λ (x : Bool). x && upTo w (knownAt n 1) (objectCount n) top)
+    (up-to-join w activeAt (1 + 2 * n) (unflushedAt n 0) n (1 + 3 * n) top (omega arith) (omega arith))
+    ∙ up-to-join w activeAt (1 + 3 * n) (knownAt n 1) (objectCount n) (maskWords n) top (omega arith) (omega arith)
+
+flagged : (w : List ℕ) (n top : ℕ) →
+    upTo w (prunedAt n 1) (objectCount n) top && upTo w (createdAt n 1) (objectCount n) top ≡ upTo w (prunedAt n 1) (flaggedWords n) top
+flagged w n top = up-to-join w (prunedAt n 1) (objectCount n) (createdAt n 1) (objectCount n) (flaggedWords n) top (omega arith) (omega arith)
 
 -- the five words, before the runs
 abbrev firstInRange : List ℕ → ℕ → Bool
-firstInRange w n = leb (at w 0) 2 && leb (at w 1) n && leb (at w 2) 2 && leb (at w 3) (n - 1) && leb (at w 4) (17 * n)
+firstInRange w n =
+    leb (at w reopeningAt) finished
+    && leb (at w reopeningPageAt) n
+    && leb (at w phaseAt) 2
+    && leb (at w passPageAt) (n - 1)
+    && leb (at w stepsAt) (stepsTop n)
 
-pub first-stops : (w : List ℕ) (n : ℕ) → firstInRange w n ≡ false → false ≡ workInRange w n
-first-stops w n h =
-    ap (λ (b : Bool). b && upTo w 5 (1 + 19 * n) 65535 && upTo w (6 + 19 * n) (32 * n) 131071 && upTo w (6 + 51 * n) (16 * n) 2) (sym h)
-    ∙ work-scan w n refl refl refl
+-- the tests as the code makes them: the five words, and three runs with the answers x, y and z
+module _ (w : List ℕ) (n l : ℕ) {x y z : Bool} (ex : x ≡ upTo w activeAt (maskWords n) maskTop)
+    (ey : y ≡ upTo w (prunedAt n 1) (flaggedWords n) flaggedTop) (ez : z ≡ upTo w (colourAt n 1) (objectCount n) colourTop) where
+  work-scan : firstInRange w n && x && y && z ≡ workInRange w n l
+  unfolding workInRange rowsInRange
+  work-scan =
+      rw (
+        ex ∙ sym (masks w n maskTop),
+        ey ∙ sym (flagged w n flaggedTop),
+        ez,
+        up-to-one w reopeningAt finished,
+        up-to-one w reopeningPageAt n,
+        up-to-one w phaseAt 2,
+        up-to-one w passPageAt (n - 1),
+        up-to-one w stepsAt (stepsTop n),
+      ) (simp (and-assoc, and-true))
 
-pub runs-go : (w : List ℕ) (n : ℕ) {x y z : Bool} → firstInRange w n ≡ true → x ≡ upTo w 5 (1 + 19 * n) 65535 → y ≡ upTo w (6 + 19 * n) (32 * n) 131071 →
-    z ≡ upTo w (6 + 51 * n) (16 * n) 2 → x && y && z ≡ workInRange w n
-runs-go w n {x} {y} {z} h ex ey ez = ap (λ (b : Bool). b && x && y && z) (sym h) ∙ work-scan w n ex ey ez
+  pub runs-go : firstInRange w n ≡ true → x && y && z ≡ workInRange w n l
+  runs-go h = ap (λ (b : Bool). b && x && y && z) (sym h) ∙ work-scan
+
+pub first-stops : (w : List ℕ) (n l : ℕ) → firstInRange w n ≡ false → false ≡ workInRange w n l
+first-stops w n l h =
+    ap (λ (b : Bool). b && upTo w activeAt (maskWords n) maskTop && upTo w (prunedAt n 1) (flaggedWords n) flaggedTop && upTo w (colourAt n 1) (objectCount n) colourTop) (sym h)
+    ∙ work-scan w n l refl refl refl

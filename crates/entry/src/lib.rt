@@ -1,34 +1,45 @@
+// Refusals 1 and 2, which every call shares.
 ghost use mathlib.Core.Path.{_≡_};
-ghost use Prim.Native.Nat.{_+_, _*_, _≤_};
+ghost use Prim.Native.Nat.{_+_, _*_, _<_, _≤_};
 ghost use lib.ListN.{length};
 ghost use Rattle.words.specs.Spans.{upTo};
-ghost use Rattle.areas.specs.Areas.{areas};
+ghost use lib.Dec.{eqb};
+ghost use Rattle.pages.specs.Geometry.{maxPages, pageWords};
+ghost use Rattle.records.specs.Records.{maxRecords, recordWords};
+ghost use Rattle.areas.specs.Areas.{areas, countWords};
+ghost use Rattle.areas.specs.Layout.{workWords, reopeningAt, finished};
+ghost use Rattle.areas.specs.Tables.{at};
 ghost use Rattle.areas.specs.Ranges.{lengthsFit, countsInRange, workInRange};
-ghost use Rattle.areas.specs.Entry.{wellFormed, readiness};
+ghost use Rattle.areas.specs.Entry.{wellFormed};
 ghost use Rattle.entry.specs.Range.{rangeOf};
-use areas::Ready;
-use areas::Refusal;
+use areas::layout;
+use pages::MAX_PAGES;
+use pages::PAGE_WORDS;
+use pages::SLOTS;
+use records::MASK_TOP;
+use records::MAX_RECORDS;
+use records::RECORD_WORDS;
 
 // Whether the lengths of the stored pages, copies, received pages, log, counts and working tables agree.
 pub fn lengths_fit(s: usize, c: usize, r: usize, g: usize, k: usize, w: usize) -> bool
     ensures { λ b. ⌜ b ≡ lengthsFit s c r g k w ⌝ }
 {
-    let n = s / 129;
-    let l = g / 6;
-    ((1 <= n) & (n <= 256) & (s == 129 * n))
+    let n = s / PAGE_WORDS;
+    let l = g / RECORD_WORDS;
+    ((1 <= n) & (n <= MAX_PAGES) & (s == PAGE_WORDS * n))
         & (c == s)
         & (r == s)
-        & ((1 <= l) & (l <= 4096) & (g == 6 * l))
-        & (k == 2)
-        & (w == 6 + 67 * n)
+        & ((1 <= l) & (l <= MAX_RECORDS) & (g == RECORD_WORDS * l))
+        & (k == layout::COUNT_WORDS)
+        & (w == layout::work_words(n, l))
 }
 
 // Whether the counts are in range for a log of l records.
 fn counts_in_range(counts: &[u32], l: usize) -> bool
-    requires { ⌜ (length (now counts) ≡ 2) × (l ≤ 4096) ⌝ }
+    requires { ⌜ (length (now counts) ≡ countWords) × (l ≤ maxRecords) ⌝ }
     ensures { λ r. ⌜ r ≡ countsInRange (now (counts .entry)) l ⌝ }
 {
-    (counts[0] <= l as u32) & (counts[1] <= counts[0])
+    (counts[layout::RECEIVED] <= l as u32) & (counts[layout::STABLE] <= counts[layout::RECEIVED])
 }
 
 // Whether the n words from a are at most top. No word ends the scan early: without a branch it takes several words at a time.
@@ -44,17 +55,23 @@ fn words_up_to(w: &[u32], a: usize, n: usize, top: u32) -> bool
 }
 
 // Whether the working words of n pages are in range. Tables that follow one another and have the same largest value are one run.
-fn work_in_range(w: &[u32], n: usize) -> bool
-    requires { ⌜ (length (now w) ≡ 6 + 67 * n) × (1 ≤ n) × (n ≤ 256) ⌝ }
-    ensures { λ r. ⌜ r ≡ workInRange (now (w .entry)) n ⌝ }
+fn work_in_range(w: &[u32], n: usize, l: usize) -> bool
+    requires { ⌜ (length (now w) ≡ workWords n l) × (1 ≤ n) × (n ≤ maxPages) ⌝ }
+    ensures { λ r. ⌜ r ≡ workInRange (now (w .entry)) n l ⌝ }
 {
     let m = n as u32;
-    if !((w[0] <= 2) & (w[1] <= m) & (w[2] <= 2) & (w[3] <= m - 1) & (w[4] <= 17 * m)) {
+    if !((w[layout::REOPENING_AT] <= layout::FINISHED)
+        & (w[layout::REOPENING_PAGE_AT] <= m)
+        & (w[layout::PHASE_AT] <= layout::SWEEPING)
+        & (w[layout::PASS_PAGE_AT] <= m - 1)
+        & (w[layout::STEPS_AT] <= layout::STEPS_PER_PAGE * m)) {
         return false;
     }
-    words_up_to(w, 5, 1 + 19 * n, 65535)
-        & words_up_to(w, 6 + 19 * n, 32 * n, 131071)
-        & words_up_to(w, 6 + 51 * n, 16 * n, 2)
+    let flagged = layout::pruned_at(n, 1);
+    let colours = layout::colour_at(n, 1);
+    words_up_to(w, layout::ACTIVE_AT, flagged - layout::ACTIVE_AT, MASK_TOP)
+        & words_up_to(w, flagged, colours - flagged, layout::FLAGGED_TOP)
+        & words_up_to(w, colours, SLOTS * n, layout::BLACK)
 }
 
 // Whether everything that refusal 1 looks at besides the lengths is in range: n pages, l records. The first area that is not ends it.
@@ -67,13 +84,13 @@ fn in_range(
     n: usize,
     l: usize,
 ) -> bool
-    requires { ⌜ (1 ≤ n) × (n ≤ 256) × (length (now copies) ≡ 129 * n) × (length (now received) ≡ 129 * n) × (l ≤ 4096) × (length (now log) ≡ 6 * l) × (length (now counts) ≡ 2) × (length (now work) ≡ 6 + 67 * n) ⌝ }
+    requires { ⌜ (1 ≤ n) × (n ≤ maxPages) × (length (now copies) ≡ pageWords * n) × (length (now received) ≡ pageWords * n) × (l ≤ maxRecords) × (length (now log) ≡ recordWords * l) × (length (now counts) ≡ countWords) × (length (now work) ≡ workWords n l) ⌝ }
     ensures { λ r. ⌜ r ≡ rangeOf (now (copies .entry)) (now (received .entry)) (now (log .entry)) (now (counts .entry)) (now (work .entry)) n l ⌝ }
 {
     if !counts_in_range(counts, l) {
         return false;
     }
-    if !work_in_range(work, n) {
+    if !work_in_range(work, n, l) {
         return false;
     }
     if !page_ops::sound::area_sound(received, n) {
@@ -82,11 +99,11 @@ fn in_range(
     if !page_ops::sound::area_sound(copies, n) {
         return false;
     }
-    record_ops::records_sound(log, n, counts[0] as usize)
+    record_ops::records_sound(log, n, counts[layout::RECEIVED] as usize)
 }
 
 // Refusal 1, without its number. own: the lengths of the call's own buffers are right.
-fn well_formed(
+pub fn well_formed(
     stored: &[u32],
     copies: &[u32],
     received: &[u32],
@@ -108,7 +125,7 @@ fn well_formed(
     if !(own & fits) {
         return false;
     }
-    if work[0] == 0 {
+    if work[layout::REOPENING_AT] == 0 {
         return true;
     }
     in_range(
@@ -117,29 +134,15 @@ fn well_formed(
         log,
         counts,
         work,
-        stored.len() / 129,
-        log.len() / 6,
+        stored.len() / PAGE_WORDS,
+        log.len() / RECORD_WORDS,
     )
 }
 
-// Refusals 1 and 2, or the number of pages. must: the reopening has to be finished.
-pub fn entry_check(
-    stored: &[u32],
-    copies: &[u32],
-    received: &[u32],
-    log: &[u32],
-    counts: &[u32],
-    work: &[u32],
-    own: bool,
-    must: bool,
-) -> Ready
-    ensures { λ r. ⌜ r ≡ readiness must own (areas (now (stored .entry)) (now (copies .entry)) (now (received .entry)) (now (log .entry)) (now (counts .entry)) (now (work .entry))) ⌝ }
+// Refusal 2, without its number: whether the reopening is finished.
+pub fn is_open(work: &[u32]) -> bool
+    requires { ⌜ reopeningAt < length (now work) ⌝ }
+    ensures { λ r. ⌜ r ≡ eqb (at (now (work .entry)) reopeningAt) finished ⌝ }
 {
-    if !well_formed(stored, copies, received, log, counts, work, own) {
-        return Ready::Not(Refusal::Malformed);
-    }
-    if must & (work[0] != 2) {
-        return Ready::Not(Refusal::NotOpen);
-    }
-    Ready::Go(stored.len() / 129)
+    work[layout::REOPENING_AT] == layout::FINISHED
 }

@@ -8,14 +8,15 @@ use lib.Seq.{getD-set-same}
 use lib.Dec.{leb}
 use native.Mathlib.Omega.{arith}
 use Rattle.records.specs.declared.Record.{Record}
-use Rattle.records.specs.Records.{recorded}
+use Rattle.pages.specs.Geometry.{pageWords, maxPages}
+use Rattle.records.specs.Records.{recordWords, maxRecords, recorded}
 use Rattle.records.specs.Effects.{effect}
 use Rattle.records.specs.Soundness.{recordSound, recordsSound}
 use Rattle.records.specs.Changes.{reserved}
 use Rattle.record_laws.specs.RecordLaws.{records-sound-wider}
 use Rattle.record_laws.specs.EffectLaws.{sound-for}
 use Rattle.areas.specs.declared.Answer.the-variants.{Done}
-use Rattle.areas.specs.Areas.{Areas, Out, areas, out, done, receivedCount, withWork, appended}
+use Rattle.areas.specs.Areas.{Areas, Out, countWords, areas, out, done, receivedCount, withWork, appended}
 use Rattle.areas.specs.Entry.{records}
 use Rattle.areas.specs.Layout.{activeAt}
 use Rattle.areas.specs.Tables.{at}
@@ -25,10 +26,10 @@ use Rattle.acceptance.specs.Entered.{Open}
 
 -- the received records of log g with counts k: they fit, and each is sound
 pub record Kept (g k : List ℕ) : Type 0 where
-  pub two : length k ≡ 2
-  pub few : getD k 0 0 ≤ 4096
-  pub inside : 6 * getD k 0 0 ≤ length g
-  pub sound : recordsSound 256 g (getD k 0 0) ≡ true
+  pub two : length k ≡ countWords
+  pub few : getD k 0 0 ≤ maxRecords
+  pub inside : recordWords * getD k 0 0 ≤ length g
+  pub sound : recordsSound maxPages g (getD k 0 0) ≡ true
 
 pub open-kept : (s : Areas) (n : ℕ) → Open s n → Kept (s .log) (s .counts)
 open-kept s n o =
@@ -38,15 +39,15 @@ open-kept s n o =
       two = z .counts-len;
       few = omega arith;
       inside = omega arith;
-      sound = records-sound-wider n 256 (s .log) (receivedCount s) (z .top) (r .records-sound);
+      sound = records-sound-wider n maxPages (s .log) (receivedCount s) (z .top) (r .records-sound);
     }
 
 -- record r may be appended to log g with counts k, and takes effect on the pages a
 pub record Fits (a g k : List ℕ) (r : Record) : Type 0 where
-  pub sound : recordSound (length a / 129) r ≡ true
-  pub two : length k ≡ 2
-  pub few : getD k 0 0 < 4096
-  pub inside : 6 * getD k 0 0 + 6 ≤ length g
+  pub sound : recordSound (length a / pageWords) r ≡ true
+  pub two : length k ≡ countWords
+  pub few : getD k 0 0 < maxRecords
+  pub inside : recordWords * getD k 0 0 + recordWords ≤ length g
 
 pub open-fits : (s : Areas) (n : ℕ) (r : Record) → Open s n → recordSound n r ≡ true → receivedCount s + 1 ≤ records s →
     Fits (s .received) (s .log) (s .counts) r
@@ -78,7 +79,7 @@ abbrev pub counted : Areas → Out
 counted a = done (receivedCount a) a
 
 -- .. and appends one record, e being what `append` tells, and then changes the working tables
-pub appended-out : (s c a g k w : List ℕ) (r : Record) (x : ℕ) (a′ g′ k′ w′ v : List ℕ) → length k ≡ 2 →
+pub appended-out : (s c a g k w : List ℕ) (r : Record) (x : ℕ) (a′ g′ k′ w′ v : List ℕ) → length k ≡ countWords →
     (x ≡ getD k 0 0 + 1) × (a′ ≡ effect a r) × (g′ ≡ recorded g (getD k 0 0) r) × (k′ ≡ set k 0 (getD k 0 0 + 1)) → w′ ≡ v →
     out (Done x) s c a′ g′ k′ w′ ≡ counted (withWork (appended (areas s c a g k w) r) v)
 unfolding appended

@@ -9,7 +9,7 @@ use native.Mathlib.Omega.{arith}
 use borrow.Author.Tests.{leb-true, eq-eqb, ne-eqb}
 use Rattle.words.specs.Tests.{by-bool, and-split, and-t, and-f, if-t, if-f}
 use Rattle.words.specs.Spans.{over, over-next}
-use Rattle.pages.specs.Geometry.{isObject}
+use Rattle.pages.specs.Geometry.{objectCount, isObject}
 use Rattle.areas.specs.Layout.{colourAt}
 use Rattle.areas.specs.Tables.{at, coloured, isWhite, mayMark, greyed}
 
@@ -27,8 +27,8 @@ over-join f w a m (suc k) =
     rw (e, over, over-join f w a m k, d)
 
 -- what an object of n pages is, in numbers
-pub object-facts : (n o : ℕ) → isObject n o ≡ true → (1 ≤ o) × (o ≤ 16 * n)
-object-facts n o h = let p = and-split (leb 1 o) (leb o (16 * n)) h in (leb-true _ _ (p .0), leb-true _ _ (p .1))
+pub object-facts : (n o : ℕ) → isObject n o ≡ true → (1 ≤ o) × (o ≤ objectCount n)
+object-facts n o h = let p = and-split (leb 1 o) (leb o (objectCount n)) h in (leb-true _ _ (p .0), leb-true _ _ (p .1))
 
 -- an object that turns grey, and one that does not
 module _ (w : List ℕ) (n o : ℕ) where

@@ -1,20 +1,23 @@
 ghost use mathlib.Core.Path.{_≡_};
 ghost use Prim.Native.Nat.{_+_, _<_, _≤_};
 ghost use lib.ListN.{length, getD, set};
-ghost use Rattle.records.specs.Records.{recorded};
+ghost use Rattle.records.specs.Records.{maxRecords, recorded};
 ghost use Rattle.records.specs.Effects.{effect};
+ghost use Rattle.areas.specs.Layout.{activeAt};
 ghost use Rattle.store_ops.specs.Logs.{Kept, Fits, roomIn};
+use areas::layout;
+use records::RECORD_WORDS;
 use records::Record;
 
 // Whether k more records fit beyond those used and reserved.
 pub fn room_beyond(log: &[u32], counts: &[u32], work: &[u32], k: usize) -> bool
     requires { ⌜ Kept (now log) (now counts) ⌝ }
-    requires { ⌜ (5 < length (now work)) × (k ≤ 4096) ⌝ }
+    requires { ⌜ (activeAt < length (now work)) × (k ≤ maxRecords) ⌝ }
     ensures { λ r. ⌜ r ≡ roomIn (now (log .entry)) (now (counts .entry)) (now (work .entry)) k ⌝ }
 {
-    let c = counts[0] as usize;
-    let held = record_ops::reserved(log, c, work[5]) as usize;
-    c + held + k <= log.len() / 6
+    let c = counts[layout::RECEIVED] as usize;
+    let held = record_ops::reserved(log, c, work[layout::ACTIVE_AT]) as usize;
+    c + held + k <= log.len() / RECORD_WORDS
 }
 
 // A record received: written behind the others, counted, and shown by the received pages. Answers the new count.
@@ -22,9 +25,9 @@ pub fn append(received: &mut [u32], log: &mut [u32], counts: &mut [u32], r: Reco
     requires { ⌜ Fits (now received) (now log) (now counts) r ⌝ }
     ensures { λ x. ⌜ (x ≡ getD (now (counts .entry)) 0 0 + 1) × (now (received .exit) ≡ effect (now (received .entry)) r) × (now (log .exit) ≡ recorded (now (log .entry)) (getD (now (counts .entry)) 0 0) r) × (now (counts .exit) ≡ set (now (counts .entry)) 0 (getD (now (counts .entry)) 0 0 + 1)) ⌝ }
 {
-    let c = counts[0];
+    let c = counts[layout::RECEIVED];
     record_ops::put_record(log, c as usize, r);
     record_ops::apply(received, r);
-    counts[0] = c + 1;
+    counts[layout::RECEIVED] = c + 1;
     c + 1
 }

@@ -1,10 +1,13 @@
 ghost use mathlib.Core.Path.{_≡_};
 ghost use Prim.Native.Nat.{_+_, _*_, _<_, _≤_};
 ghost use lib.ListN.{length};
-ghost use Rattle.pages.specs.Geometry.{isObject};
+ghost use Rattle.pages.specs.Geometry.{maxPages, isObject};
+ghost use Rattle.areas.specs.Layout.{HasTables, phaseAt};
 ghost use Rattle.areas.specs.Tables.{has, gain, lose, canRead, canWrite, knows, greyed};
 ghost use Rattle.calls.specs.Transactions.{leaves, endedEntry, endedEntries};
+use areas::layout;
 use page_ops::bits;
+use pages::SLOTS;
 
 // Whether t is in the mask at word i.
 pub fn has(w: &[u32], i: usize, t: u32) -> bool
@@ -49,15 +52,19 @@ fn ended_entry(m: u32, t: u32, runs: bool) -> u32
         return m;
     }
     let left = bits::without_bit(m, t as usize);
-    if runs { bits::with_bit(left, 16) } else { left }
+    if runs {
+        bits::with_bit(left, layout::FLAG)
+    } else {
+        left
+    }
 }
 
 // The same of each of the k masks from word a.
 pub fn end_entries(w: &mut [u32], a: usize, k: usize, t: u32)
-    requires { ⌜ (2 < length (now w)) × (a + k ≤ length (now w)) × (t < 32) ⌝ }
+    requires { ⌜ (phaseAt < length (now w)) × (a + k ≤ length (now w)) × (t < 32) ⌝ }
     ensures { λ _. ⌜ now (w .exit) ≡ endedEntries t (now (w .entry)) a k ⌝ }
 {
-    let runs = w[2] != 0;
+    let runs = w[layout::PHASE_AT] != 0;
     for j in 0..k {
         w[a + j] = ended_entry(w[a + j], t, runs);
     }
@@ -65,49 +72,49 @@ pub fn end_entries(w: &mut [u32], a: usize, k: usize, t: u32)
 
 // Whether t may read page p of n: under either lock.
 pub fn can_read(w: &[u32], n: usize, t: u32, p: usize) -> bool
-    requires { ⌜ (length (now w) ≡ 6 + 67 * n) × (p < n) × (t < 32) ⌝ }
+    requires { ⌜ HasTables (now w) n × (p < n) × (t < 32) ⌝ }
     ensures { λ r. ⌜ r ≡ canRead (now (w .entry)) n t p ⌝ }
 {
-    has(w, 6 + p, t) | has(w, 6 + n + p, t)
+    has(w, layout::readers_at(n, p), t) | has(w, layout::writers_at(n, p), t)
 }
 
 // Whether t may write page p of n.
 pub fn can_write(w: &[u32], n: usize, t: u32, p: usize) -> bool
-    requires { ⌜ (length (now w) ≡ 6 + 67 * n) × (p < n) × (t < 32) ⌝ }
+    requires { ⌜ HasTables (now w) n × (p < n) × (t < 32) ⌝ }
     ensures { λ r. ⌜ r ≡ canWrite (now (w .entry)) n t p ⌝ }
 {
-    has(w, 6 + n + p, t)
+    has(w, layout::writers_at(n, p), t)
 }
 
 // Whether o is an object of n pages.
 pub fn is_object(n: usize, o: u32) -> bool
-    requires { ⌜ n ≤ 256 ⌝ }
+    requires { ⌜ n ≤ maxPages ⌝ }
     ensures { λ r. ⌜ r ≡ isObject n o ⌝ }
 {
-    (1 <= o) & (o <= 16 * (n as u32))
+    (1 <= o) & (o as usize <= SLOTS * n)
 }
 
 // Whether t knows o; what is no object of n pages is never known.
 pub fn knows(w: &[u32], n: usize, t: u32, o: u32) -> bool
-    requires { ⌜ (length (now w) ≡ 6 + 67 * n) × (n ≤ 256) × (t < 32) ⌝ }
+    requires { ⌜ HasTables (now w) n × (t < 32) ⌝ }
     ensures { λ r. ⌜ r ≡ knows (now (w .entry)) n t o ⌝ }
 {
     if !is_object(n, o) {
         return false;
     }
-    has(w, 6 + 3 * n + (o as usize - 1), t)
+    has(w, layout::known_at(n, o as usize), t)
 }
 
 // A white object of the pass turns grey.
 pub fn turn_grey(w: &mut [u32], n: usize, o: u32)
-    requires { ⌜ (length (now w) ≡ 6 + 67 * n) × (n ≤ 256) ⌝ }
+    requires { ⌜ HasTables (now w) n ⌝ }
     ensures { λ _. ⌜ now (w .exit) ≡ greyed (now (w .entry)) n o ⌝ }
 {
     if !is_object(n, o) {
         return;
     }
-    let i = 6 + 51 * n + (o as usize - 1);
-    if w[i] == 0 {
-        w[i] = 1;
+    let i = layout::colour_at(n, o as usize);
+    if w[i] == layout::WHITE {
+        w[i] = layout::GREY;
     }
 }
