@@ -48,7 +48,8 @@ fn sample<S: Side>(case: &Case, mut areas: Areas) -> (Areas, f64) {
     let mut side = S::lend(areas);
     let mut buffer = [0; OBJECT_WORDS];
     let started = Instant::now();
-    black_box(side.perform(black_box(case.call), Lent { buffer: &mut buffer, image: &case.image }));
+    let lent = Lent { buffer: black_box(&mut buffer), image: black_box(&case.image) };
+    black_box(side.perform(black_box(case.call), lent));
     let time = started.elapsed().as_nanos() as f64;
     (side.back(), time)
 }
