@@ -9,7 +9,6 @@ pub use sides::Side;
 pub use table::{Call, NAMES};
 
 /// What a call may be lent beside the areas: read takes the buffer, flush the image.
-#[derive(Default)]
 pub struct Lent<'a> {
     pub buffer: &'a mut [u32],
     pub image: &'a [u32],
