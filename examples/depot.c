@@ -13,11 +13,12 @@ enum { ROOT = 1, DISPENSER = 17, OLD_VALVE = 18, OTHER_VALVE = 19, NEW_VALVE = 2
 enum { SERIAL = 4 };              /* the data word with a valve's serial number */
 enum { PHASE = 2, SWEEPING = 2 }; /* the pass phase in the working tables: docs/LAYOUT.md */
 
-/* The six areas, and how every call takes them: a pointer and a length in words each. */
+/* The six areas, each lent as a pointer and its length in words. */
 static uint32_t stored[PAGES * PAGE_WORDS], copies[PAGES * PAGE_WORDS], received[PAGES * PAGE_WORDS];
 static uint32_t records[RECORDS * RECORD_WORDS], counts[KOPHDAEN_COUNTS_WORDS], work[KOPHDAEN_WORK_WORDS(PAGES)];
 #define LENT(area) area, sizeof area / sizeof *area
-#define AREAS LENT(stored), LENT(copies), LENT(received), LENT(records), LENT(counts), LENT(work)
+static const kophdaen_areas depot = {LENT(stored), LENT(copies), LENT(received),
+                                     LENT(records), LENT(counts), LENT(work)};
 
 /* The disk: all that a cut leaves. Here it is memory; a server has a file. */
 static struct {
@@ -49,7 +50,7 @@ static uint32_t done(uint64_t code)
 /* A new store. */
 static void format(void)
 {
-    done(kophdaen_format(AREAS));
+    done(kophdaen_areas_format(&depot));
     for (uint32_t page = 0; page < PAGES; page++)
         write_page(page);
     write_log();
@@ -67,9 +68,9 @@ static void start(void)
     memcpy(records, disk.records, disk.stable * RECORD_WORDS * sizeof *records);
     counts[0] = 0;
     counts[1] = disk.stable;
-    done(kophdaen_reopen(AREAS));
+    done(kophdaen_areas_reopen(&depot));
     do {
-        page = done(kophdaen_reopen_step(AREAS));
+        page = done(kophdaen_areas_reopen_step(&depot));
         if (page < PAGES)
             write_page(page);
         else
@@ -81,7 +82,7 @@ static void start(void)
 static void force_all(void)
 {
     while (counts[1] < counts[0]) {
-        done(kophdaen_force(AREAS));
+        done(kophdaen_areas_force(&depot));
         write_log();
     }
 }
@@ -91,10 +92,10 @@ static void empty_log(void)
 {
     force_all();
     for (uint32_t page = 0; page < PAGES; page++) {
-        done(kophdaen_store_page(AREAS, page));
+        done(kophdaen_areas_store_page(&depot, page));
         write_page(page);
     }
-    done(kophdaen_empty_log(AREAS));
+    done(kophdaen_areas_empty_log(&depot));
     write_log();
 }
 
@@ -103,56 +104,56 @@ static void flush(uint32_t t, uint32_t page)
 {
     uint32_t image[PAGE_WORDS];
     memcpy(image, received + page * PAGE_WORDS, sizeof image);
-    done(kophdaen_flush(AREAS, LENT(image), t, page));
+    done(kophdaen_areas_flush(&depot, LENT(image), t, page));
 }
 
 /* The dispenser below the root, with two valves. */
 static void install(uint32_t t)
 {
-    done(kophdaen_begin(AREAS, t));
-    done(kophdaen_lock_write(AREAS, t, 0));
-    done(kophdaen_lock_write(AREAS, t, 1));
-    done(kophdaen_create(AREAS, t, DISPENSER));
-    done(kophdaen_create(AREAS, t, OLD_VALVE));
-    done(kophdaen_create(AREAS, t, OTHER_VALVE));
-    done(kophdaen_set_word(AREAS, t, ROOT, 0, DISPENSER));
-    done(kophdaen_set_word(AREAS, t, DISPENSER, 0, OLD_VALVE));
-    done(kophdaen_set_word(AREAS, t, DISPENSER, 1, OTHER_VALVE));
-    done(kophdaen_set_word(AREAS, t, OLD_VALVE, SERIAL, 50118));
+    done(kophdaen_areas_begin(&depot, t));
+    done(kophdaen_areas_lock_write(&depot, t, 0));
+    done(kophdaen_areas_lock_write(&depot, t, 1));
+    done(kophdaen_areas_create(&depot, t, DISPENSER));
+    done(kophdaen_areas_create(&depot, t, OLD_VALVE));
+    done(kophdaen_areas_create(&depot, t, OTHER_VALVE));
+    done(kophdaen_areas_set_word(&depot, t, ROOT, 0, DISPENSER));
+    done(kophdaen_areas_set_word(&depot, t, DISPENSER, 0, OLD_VALVE));
+    done(kophdaen_areas_set_word(&depot, t, DISPENSER, 1, OTHER_VALVE));
+    done(kophdaen_areas_set_word(&depot, t, OLD_VALVE, SERIAL, 50118));
     flush(t, 0);
     flush(t, 1);
-    done(kophdaen_commit(AREAS, t));
+    done(kophdaen_areas_commit(&depot, t));
 }
 
 /* Transaction t begins, and finds its way from the root to the dispenser: what it read, it knows. */
 static void reach_dispenser(uint32_t t)
 {
-    uint32_t words[8];
-    done(kophdaen_begin(AREAS, t));
-    done(kophdaen_lock_read(AREAS, t, 0));
-    done(kophdaen_read(AREAS, LENT(words), t, ROOT));
-    done(kophdaen_lock_write(AREAS, t, 1));
-    done(kophdaen_read(AREAS, LENT(words), t, DISPENSER));
+    uint32_t words[KOPHDAEN_OBJECT_WORDS];
+    done(kophdaen_areas_begin(&depot, t));
+    done(kophdaen_areas_lock_read(&depot, t, 0));
+    done(kophdaen_areas_read(&depot, LENT(words), t, ROOT));
+    done(kophdaen_areas_lock_write(&depot, t, 1));
+    done(kophdaen_areas_read(&depot, LENT(words), t, DISPENSER));
 }
 
 static void replace_valve(uint32_t t)
 {
     reach_dispenser(t);
-    done(kophdaen_create(AREAS, t, NEW_VALVE));
-    done(kophdaen_set_word(AREAS, t, DISPENSER, 0, NEW_VALVE));
-    done(kophdaen_set_word(AREAS, t, NEW_VALVE, SERIAL, 50233));
+    done(kophdaen_areas_create(&depot, t, NEW_VALVE));
+    done(kophdaen_areas_set_word(&depot, t, DISPENSER, 0, NEW_VALVE));
+    done(kophdaen_areas_set_word(&depot, t, NEW_VALVE, SERIAL, 50233));
     flush(t, 1);
-    done(kophdaen_commit(AREAS, t));
+    done(kophdaen_areas_commit(&depot, t));
 }
 
 /* A whole pass; the number of slots that it freed. */
 static uint32_t collect(void)
 {
     uint32_t freed = 0;
-    done(kophdaen_start_pass(AREAS));
+    done(kophdaen_areas_start_pass(&depot));
     while (work[PHASE] != 0) {
         int sweeping = work[PHASE] == SWEEPING;
-        uint32_t value = done(kophdaen_pass_step(AREAS));
+        uint32_t value = done(kophdaen_areas_pass_step(&depot));
         freed += sweeping ? value : 0;
     }
     return freed;
@@ -161,14 +162,14 @@ static uint32_t collect(void)
 /* Reads the valve that the dispenser names in its word 0, then asks for the old one. */
 static void show(uint32_t t)
 {
-    uint32_t words[8], valve;
+    uint32_t words[KOPHDAEN_OBJECT_WORDS], valve;
     reach_dispenser(t);
-    valve = done(kophdaen_read(AREAS, LENT(words), t, DISPENSER));
-    done(kophdaen_read(AREAS, LENT(words), t, valve));
+    valve = done(kophdaen_areas_read(&depot, LENT(words), t, DISPENSER));
+    done(kophdaen_areas_read(&depot, LENT(words), t, valve));
     printf("dispenser %d: valve %" PRIu32 ", serial number %" PRIu32 "\n", DISPENSER, valve, words[SERIAL]);
     printf("valve %d: answer %" PRIu32 "\n", OLD_VALVE,
-           KOPHDAEN_ANSWER(kophdaen_read(AREAS, LENT(words), t, OLD_VALVE)));
-    done(kophdaen_commit(AREAS, t));
+           KOPHDAEN_ANSWER(kophdaen_areas_read(&depot, LENT(words), t, OLD_VALVE)));
+    done(kophdaen_areas_commit(&depot, t));
 }
 
 int main(void)
@@ -180,7 +181,7 @@ int main(void)
     replace_valve(1);
     printf("slots freed: %" PRIu32 "\n", collect());
     reach_dispenser(2);
-    done(kophdaen_set_word(AREAS, 2, DISPENSER, 0, 0)); /* a job that the cut stops */
+    done(kophdaen_areas_set_word(&depot, 2, DISPENSER, 0, 0)); /* a job that the cut stops */
     force_all();
     printf("power cut: %" PRIu32 " records stable\n", disk.stable);
     start();

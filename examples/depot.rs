@@ -2,7 +2,7 @@
 //! that frees the old one, a power cut in the middle of a job, and the start after it.
 //! docs/CALLING.md explains the calls; examples/depot.c is the same day in C.
 
-use kophdaen::{Answer, Store, PAGE_WORDS, RECORD_WORDS};
+use kophdaen::{Answer, Store, OBJECT_WORDS, PAGE_WORDS, RECORD_WORDS};
 
 const PAGES: usize = 4;
 const RECORDS: usize = 64;
@@ -123,9 +123,9 @@ impl Server {
     fn reach_dispenser(&mut self, t: u32) {
         done(self.store.begin(t));
         done(self.store.lock_read(t, 0));
-        done(self.store.read(&mut [0; 8], t, ROOT));
+        done(self.store.read(&mut [0; OBJECT_WORDS], t, ROOT));
         done(self.store.lock_write(t, 1));
-        done(self.store.read(&mut [0; 8], t, DISPENSER));
+        done(self.store.read(&mut [0; OBJECT_WORDS], t, DISPENSER));
     }
 
     fn replace_valve(&mut self, t: u32) {
@@ -151,7 +151,7 @@ impl Server {
 
     /// Reads the valve that the dispenser names in its word 0, then asks for the old one.
     fn show(&mut self, t: u32) {
-        let mut words = [0; 8];
+        let mut words = [0; OBJECT_WORDS];
         self.reach_dispenser(t);
         let valve = done(self.store.read(&mut words, t, DISPENSER));
         done(self.store.read(&mut words, t, valve));

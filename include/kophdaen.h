@@ -4,7 +4,8 @@
  * stored pages, page copies, received pages (129 * P words each), the log (6 * L), the two log
  * counts (2) and the working tables (6 + 67 * P), with P from 1 to 256 and L from 1 to 4096. No
  * area may overlap another. An area that a call only reads is const. The library keeps no pointer
- * and allocates nothing.
+ * and allocates nothing. A call takes the areas, then the buffer or the image that it is lent, then
+ * its numbers; kophdaen_areas_NAME, at the end, takes the areas as one struct.
  *
  * A call answers  answer number * 2^32 + value : number 0 where accepted, else the refusal's number
  * in document 01's table, with the value 0 and every buffer as it was. Any words may be lent.
@@ -23,6 +24,7 @@ extern "C" {
 #define KOPHDAEN_ANSWER(code) ((uint32_t)((uint64_t)(code) >> 32))
 #define KOPHDAEN_VALUE(code) ((uint32_t)(code))
 #define KOPHDAEN_PAGE_WORDS 129u
+#define KOPHDAEN_OBJECT_WORDS 8u
 #define KOPHDAEN_RECORD_WORDS 6u
 #define KOPHDAEN_COUNTS_WORDS 2u
 #define KOPHDAEN_WORK_WORDS(pages) (6u + 67u * (pages))
@@ -120,7 +122,8 @@ uint64_t kophdaen_pass_step(
     uint32_t *received, size_t received_words, uint32_t *log, size_t log_words,
     uint32_t *counts, size_t counts_words, uint32_t *work, size_t work_words);
 
-/* Replays the stable log over the stored pages. Checks lengths only for refusal 1. Takes up to 180 kB of stack. Value 0. */
+/* Replays the stable log over the stored pages. Checks lengths only for refusal 1. Takes up to 180 kB of
+ * stack. Value 0. */
 uint64_t kophdaen_reopen(
     const uint32_t *stored, size_t stored_words, uint32_t *copies, size_t copies_words,
     uint32_t *received, size_t received_words, const uint32_t *log, size_t log_words,
@@ -131,6 +134,119 @@ uint64_t kophdaen_reopen_step(
     uint32_t *stored, size_t stored_words, const uint32_t *copies, size_t copies_words,
     const uint32_t *received, size_t received_words, const uint32_t *log, size_t log_words,
     uint32_t *counts, size_t counts_words, uint32_t *work, size_t work_words);
+
+/* The six areas as one value, and every call on it: what stands above, with the areas in one argument. */
+typedef struct kophdaen_areas {
+    uint32_t *stored;
+    size_t stored_words;
+    uint32_t *copies;
+    size_t copies_words;
+    uint32_t *received;
+    size_t received_words;
+    uint32_t *log;
+    size_t log_words;
+    uint32_t *counts;
+    size_t counts_words;
+    uint32_t *work;
+    size_t work_words;
+} kophdaen_areas;
+
+#define KOPHDAEN_LENT(a) \
+    (a)->stored, (a)->stored_words, (a)->copies, (a)->copies_words, (a)->received, (a)->received_words, \
+        (a)->log, (a)->log_words, (a)->counts, (a)->counts_words, (a)->work, (a)->work_words
+
+static inline uint64_t kophdaen_areas_format(const kophdaen_areas *areas)
+{
+    return kophdaen_format(KOPHDAEN_LENT(areas));
+}
+
+static inline uint64_t kophdaen_areas_begin(const kophdaen_areas *areas, uint32_t t)
+{
+    return kophdaen_begin(KOPHDAEN_LENT(areas), t);
+}
+
+static inline uint64_t kophdaen_areas_commit(const kophdaen_areas *areas, uint32_t t)
+{
+    return kophdaen_commit(KOPHDAEN_LENT(areas), t);
+}
+
+static inline uint64_t kophdaen_areas_abort(const kophdaen_areas *areas, uint32_t t)
+{
+    return kophdaen_abort(KOPHDAEN_LENT(areas), t);
+}
+
+static inline uint64_t kophdaen_areas_lock_read(
+    const kophdaen_areas *areas, uint32_t t, uint32_t page)
+{
+    return kophdaen_lock_read(KOPHDAEN_LENT(areas), t, page);
+}
+
+static inline uint64_t kophdaen_areas_lock_write(
+    const kophdaen_areas *areas, uint32_t t, uint32_t page)
+{
+    return kophdaen_lock_write(KOPHDAEN_LENT(areas), t, page);
+}
+
+static inline uint64_t kophdaen_areas_read(
+    const kophdaen_areas *areas, uint32_t *buffer, size_t buffer_words, uint32_t t, uint32_t object)
+{
+    return kophdaen_read(KOPHDAEN_LENT(areas), buffer, buffer_words, t, object);
+}
+
+static inline uint64_t kophdaen_areas_create(
+    const kophdaen_areas *areas, uint32_t t, uint32_t object)
+{
+    return kophdaen_create(KOPHDAEN_LENT(areas), t, object);
+}
+
+static inline uint64_t kophdaen_areas_set_word(
+    const kophdaen_areas *areas, uint32_t t, uint32_t object, uint32_t field, uint32_t word)
+{
+    return kophdaen_set_word(KOPHDAEN_LENT(areas), t, object, field, word);
+}
+
+static inline uint64_t kophdaen_areas_flush(
+    const kophdaen_areas *areas, const uint32_t *image, size_t image_words, uint32_t t, uint32_t page)
+{
+    return kophdaen_flush(KOPHDAEN_LENT(areas), image, image_words, t, page);
+}
+
+static inline uint64_t kophdaen_areas_force(const kophdaen_areas *areas)
+{
+    return kophdaen_force(KOPHDAEN_LENT(areas));
+}
+
+static inline uint64_t kophdaen_areas_store_page(const kophdaen_areas *areas, uint32_t page)
+{
+    return kophdaen_store_page(KOPHDAEN_LENT(areas), page);
+}
+
+static inline uint64_t kophdaen_areas_empty_log(const kophdaen_areas *areas)
+{
+    return kophdaen_empty_log(KOPHDAEN_LENT(areas));
+}
+
+static inline uint64_t kophdaen_areas_start_pass(const kophdaen_areas *areas)
+{
+    return kophdaen_start_pass(KOPHDAEN_LENT(areas));
+}
+
+static inline uint64_t kophdaen_areas_pass_step(const kophdaen_areas *areas)
+{
+    return kophdaen_pass_step(KOPHDAEN_LENT(areas));
+}
+
+static inline uint64_t kophdaen_areas_reopen(const kophdaen_areas *areas)
+{
+    return kophdaen_reopen(KOPHDAEN_LENT(areas));
+}
+
+static inline uint64_t kophdaen_areas_reopen_step(const kophdaen_areas *areas)
+{
+    return kophdaen_reopen_step(KOPHDAEN_LENT(areas));
+}
+
+#undef KOPHDAEN_LENT
 
 #ifdef __cplusplus
 }

@@ -1,13 +1,13 @@
-//! Where the archive stands: the directory named by KOPHDAEN_LIB.
+//! Where the archive stands: in the directory that KOPHDAEN_LIB names, as an absolute path.
+
+/// The proved crate that `rt staticlib` makes the archive of.
+const CRATE: &str = "api";
 
 fn main() {
     println!("cargo:rerun-if-env-changed=KOPHDAEN_LIB");
-    if std::env::var_os("CARGO_FEATURE_LINKED").is_none() {
-        return;
-    }
     let directory = std::env::var("KOPHDAEN_LIB")
-        .expect("feature 'linked': set KOPHDAEN_LIB to the directory of libkophdaen.a");
-    println!("cargo:rerun-if-changed={directory}/libkophdaen.a");
+        .unwrap_or_else(|_| panic!("set KOPHDAEN_LIB to the directory of lib{CRATE}.a"));
+    println!("cargo:rerun-if-changed={directory}/lib{CRATE}.a");
     println!("cargo:rustc-link-search=native={directory}");
-    println!("cargo:rustc-link-lib=static=kophdaen");
+    println!("cargo:rustc-link-lib=static={CRATE}");
 }

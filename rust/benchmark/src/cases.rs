@@ -1,12 +1,16 @@
 //! For each call the state that it is measured in: accepted, refused on its own account, and
 //! refused with 1.
 
+use calls::{Call, Side};
 use kophdaen::Store;
-use model::layout::{page_of, word_at, Areas, ROOT, SLOTS};
+use model::layout::*;
 
-use crate::calls::{Call, Side};
 use crate::random::Random;
 use crate::states::*;
+
+/// No kind of record, and a bit above every map and mask.
+pub const NO_KIND: u32 = 8;
+pub const HIGH_BIT: u32 = 1 << 16;
 
 /// Which words the floor adds up.
 #[derive(Clone, Copy, PartialEq)]
@@ -24,6 +28,8 @@ pub struct Case {
     /// 0 where accepted, else the refusal.
     pub number: u32,
     pub call: Call,
+    /// Flush's.
+    pub image: Vec<u32>,
     pub areas: Areas,
     pub floor: Floor,
 }
@@ -67,6 +73,7 @@ pub fn cases(size: Size, fill: Fill) -> Vec<Case> {
     transactions(&base, &mut list);
     locks(&base, &mut list);
     objects(&base, &mut list);
+    flushing(&base, &mut list);
     stability(&base, &mut list);
     passes(&base, &mut list);
     reopening(&base, &mut list);
@@ -74,7 +81,7 @@ pub fn cases(size: Size, fill: Fill) -> Vec<Case> {
 }
 
 fn add(list: &mut Vec<Case>, name: &'static str, number: u32, store: &Store, call: Call) {
-    list.push(Case { name, number, call, areas: store.clone().back(), floor: Floor::All });
+    list.push(Case { name, number, call, image: Vec::new(), areas: store.clone().back(), floor: Floor::All });
 }
 
 /// Accepted in one state, refused with `number` in another, and refused with 1 where the accepting
@@ -86,7 +93,7 @@ fn add_three(
     number: u32,
     refusing: (&Store, Call),
 ) {
-    add(list, name, 0, accepting.0, accepting.1.clone());
+    add(list, name, 0, accepting.0, accepting.1);
     add(list, name, number, refusing.0, refusing.1);
     add(list, name, 1, &damaged(accepting.0), accepting.1);
 }
@@ -97,10 +104,10 @@ pub fn damaged(store: &Store) -> Store {
     let mut store = store.clone();
     match received(&store) {
         0 => {
-            let last = store.copies.len() - 129;
-            store.copies[last] = 1 << 16;
+            let last = store.copies.len() - PAGE_WORDS;
+            store.copies[last] = HIGH_BIT;
         }
-        count => store.log[6 * (count - 1)] = 8,
+        count => store.log[RECORD_WORDS * (count - 1)] = NO_KIND,
     }
     store
 }
@@ -116,12 +123,12 @@ fn formatting(base: &Base, list: &mut Vec<Case>) {
 
 fn transactions(base: &Base, list: &mut Vec<Case>) {
     let begin = Call::Begin(ACTOR);
-    add_three(list, "begin", (&base.quiet, begin.clone()), 4, (&base.flushed, begin));
+    add_three(list, "begin", (&base.quiet, begin), 4, (&base.flushed, begin));
     let commit = Call::Commit(ACTOR);
-    add_three(list, "commit", (&base.flushed, commit.clone()), 10, (&base.acting, commit));
+    add_three(list, "commit", (&base.flushed, commit), 10, (&base.acting, commit));
     let abort = Call::Abort(ACTOR);
     let undone = changing(base);
-    add_three(list, "abort", (&undone, abort.clone()), 4, (&base.quiet, abort));
+    add_three(list, "abort", (&undone, abort), 4, (&base.quiet, abort));
 }
 
 /// The actor has made half of the records in the log: with what it reserves, the log is then as full
@@ -149,7 +156,7 @@ fn locks(base: &Base, list: &mut Vec<Case>) {
     accept(held.begin(OTHER));
     accept(held.lock_write(OTHER, page));
     let write = Call::LockWrite(ACTOR, page);
-    add_three(list, "lock_write", (&base.flushed, write.clone()), 6, (&held, write));
+    add_three(list, "lock_write", (&base.flushed, write), 6, (&held, write));
 }
 
 fn objects(base: &Base, list: &mut Vec<Case>) {
@@ -163,11 +170,17 @@ fn objects(base: &Base, list: &mut Vec<Case>) {
     let set = |word| Call::SetWord(ACTOR, ROOT, 1, word);
     let unknown = (SLOTS * base.size.pages) as u32 + 1;
     add_three(list, "set_word", (state, set(child)), 7, (state, set(unknown)));
-    let image = page_image(&base.acting, 0);
-    let mut other = image.clone();
-    other[128] ^= 1;
-    let flush = |image| Call::Flush(ACTOR, 0, image);
-    add_three(list, "flush", (&base.acting, flush(image)), 9, (&base.acting, flush(other)));
+}
+
+/// Refused where the image's last word differs.
+fn flushing(base: &Base, list: &mut Vec<Case>) {
+    let first = list.len();
+    let flush = Call::Flush(ACTOR, 0);
+    add_three(list, "flush", (&base.acting, flush), 9, (&base.acting, flush));
+    for case in &mut list[first..] {
+        case.image = page_image(&base.acting, 0);
+        case.image[PAGE_WORDS - 1] ^= u32::from(case.number == 9);
+    }
 }
 
 fn stability(base: &Base, list: &mut Vec<Case>) {
@@ -186,10 +199,10 @@ fn passes(base: &Base, list: &mut Vec<Case>) {
     add_three(list, "start_pass", (&base.quiet, Call::StartPass), 4, (&state, Call::StartPass));
     (0..4 * base.size.pages).for_each(|_| accept(state.pass_step()));
     add_three(list, "pass_step (mark)", (&state, Call::PassStep), 4, (&base.quiet, Call::PassStep));
-    while state.work[2] == 1 {
+    while state.work[PHASE] == MARKING {
         let before = state.clone();
         accept(state.pass_step());
-        if state.work[2] == 2 {
+        if state.work[PHASE] == SWEEPING {
             add(list, "pass_step (turn)", 0, &before, Call::PassStep);
         }
     }
@@ -205,7 +218,7 @@ fn reopening(base: &Base, list: &mut Vec<Case>) {
     let first = list.len();
     add(list, "reopen", 0, &cut, Call::Reopen);
     let mut unsound = cut.clone();
-    unsound.log[6 * (cut.counts[1] as usize - 1)] = 8;
+    unsound.log[RECORD_WORDS * (cut.counts[STABLE_COUNT] as usize - 1)] = NO_KIND;
     add(list, "reopen", 14, &unsound, Call::Reopen);
     list[first..].iter_mut().for_each(|case| case.floor = Floor::Stable);
     let mut open = cut;

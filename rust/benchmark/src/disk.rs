@@ -6,6 +6,8 @@ use std::os::unix::fs::FileExt;
 use std::path::Path;
 use std::time::Instant;
 
+use kophdaen::RECORD_WORDS;
+
 /// When the caller waits for the disk.
 #[derive(Clone, Copy, PartialEq)]
 pub enum Sync {
@@ -65,7 +67,7 @@ pub fn sync_time(directory: &Path) -> f64 {
     let mut times: Vec<f64> = (0..51)
         .map(|_| {
             let started = Instant::now();
-            disk.append(&[0; 6]);
+            disk.append(&[0; RECORD_WORDS]);
             disk.sync_log();
             started.elapsed().as_secs_f64() * 1e6
         })

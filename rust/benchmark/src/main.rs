@@ -4,7 +4,6 @@
 //!
 //! DIRECTORY is for the files that the workload writes; FILE becomes the page. tests/benchmark calls it.
 
-mod calls;
 mod cases;
 mod damage;
 mod disk;

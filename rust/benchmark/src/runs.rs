@@ -3,10 +3,10 @@
 use std::path::Path;
 use std::time::Duration;
 
+use calls::Side;
 use kophdaen::Store;
 use model::Model;
 
-use crate::calls::Side;
 use crate::disk::{sync_time, Disk, Sync};
 use crate::tables::{Shop, JOURNALS};
 use crate::workload::{Depot, Plan, Use};

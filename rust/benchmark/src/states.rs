@@ -1,9 +1,7 @@
 //! The states that calls are measured in: a populated store, and logs of committed transactions.
 
-use kophdaen::Store;
-use model::layout::{
-    map_at, object_at, page_of, page_range, word_at, Table, PAGE_WORDS, RECORD_WORDS, ROOT, SLOTS,
-};
+use kophdaen::{Store, OBJECT_WORDS};
+use model::layout::*;
 
 use crate::random::Random;
 
@@ -74,7 +72,7 @@ pub fn populated(size: Size) -> Store {
 }
 
 fn occupy(area: &mut [u32], object: u32, random: &mut Random) {
-    area[map_at(page_of(object))] |= 1 << ((object as usize - 1) % SLOTS);
+    area[map_at(page_of(object))] |= 1 << (slot_of(object));
     for field in 4..8 {
         area[word_at(object, field)] = random.word();
     }
@@ -121,7 +119,7 @@ pub fn walk(store: &mut Store, t: u32, sets: usize, random: &mut Random) {
     let mut at = ROOT;
     let mut before = ROOT;
     for _ in 0..sets {
-        let mut words = [0; 8];
+        let mut words = [0; OBJECT_WORDS];
         accept(store.lock_write(t, page_of(at) as u32));
         accept(store.read(&mut words, t, at));
         let (field, word) = match random.below(4) {
@@ -152,13 +150,13 @@ pub fn page_image(store: &Store, page: usize) -> Vec<u32> {
 }
 
 pub fn force_all(store: &mut Store) {
-    while store.counts[1] < store.counts[0] {
+    while store.counts[STABLE_COUNT] < store.counts[RECEIVED_COUNT] {
         accept(store.force());
     }
 }
 
 pub fn received(store: &Store) -> usize {
-    store.counts[0] as usize
+    store.counts[RECEIVED_COUNT] as usize
 }
 
 pub fn accept(answer: kophdaen::Answer) {
@@ -174,7 +172,7 @@ pub fn free_object(store: &Store) -> u32 {
 pub fn act(store: &mut Store) {
     accept(store.begin(ACTOR));
     accept(store.lock_write(ACTOR, 0));
-    accept(store.read(&mut [0; 8], ACTOR, ROOT));
+    accept(store.read(&mut [0; OBJECT_WORDS], ACTOR, ROOT));
     let object = free_object(store);
     accept(store.create(ACTOR, object));
     accept(store.set_word(ACTOR, ROOT, 3, object));

@@ -3,11 +3,11 @@
 use std::hint::black_box;
 use std::time::{Duration, Instant};
 
-use kophdaen::Store;
-use model::layout::{Areas, AREAS};
+use calls::{Lent, Side};
+use kophdaen::{Store, OBJECT_WORDS};
+use model::layout::{Areas, AREAS, RECORD_WORDS, STABLE_COUNT};
 use model::Model;
 
-use crate::calls::Side;
 use crate::cases::{Case, Floor};
 
 /// Nanoseconds, each the least of its samples.
@@ -46,18 +46,20 @@ fn restore(areas: &mut Areas, from: &Areas) {
 fn sample<S: Side>(case: &Case, mut areas: Areas) -> (Areas, f64) {
     restore(&mut areas, &case.areas);
     let mut side = S::lend(areas);
+    let mut buffer = [0; OBJECT_WORDS];
     let started = Instant::now();
-    black_box(side.perform(black_box(&case.call)));
+    let lent = Lent { buffer: black_box(&mut buffer), image: black_box(&case.image) };
+    black_box(side.perform(black_box(case.call), lent));
     let time = started.elapsed().as_nanos() as f64;
     (side.back(), time)
 }
 
 fn floor(case: &Case, areas: &mut Areas) -> f64 {
     restore(areas, &case.areas);
-    let stable = 6 * areas.stable_count();
+    let stable = RECORD_WORDS * areas.stable_count();
     let lent: [&[u32]; 6] = match case.floor {
         Floor::All => AREAS.map(|area| &areas.of(area)[..]),
-        Floor::Stable => [&areas.stored, &areas.log[..stable], &areas.counts[1..], &[], &[], &[]],
+        Floor::Stable => [&areas.stored, &areas.log[..stable], &areas.counts[STABLE_COUNT..], &[], &[], &[]],
         Floor::Nothing => [&[]; 6],
     };
     let started = Instant::now();
@@ -74,14 +76,17 @@ fn sum(areas: [&[u32]; 6]) -> u32 {
 
 /// Both sides must answer what the case says, and leave the same words.
 fn check_same(case: &Case) {
-    let mut store = Store::lend(case.areas.clone());
-    let mut model = Model::lend(case.areas.clone());
-    let answers = [store.perform(&case.call), model.perform(&case.call)];
-    for answer in answers {
-        assert_eq!((answer >> 32) as u32, case.number, "{}", case.name);
-    }
-    assert_eq!(answers[0], answers[1], "{}", case.name);
-    assert!(store.back() == model.back(), "{}: the sides differ", case.name);
+    let library = made::<Store>(case);
+    assert_eq!((library.0 >> 32) as u32, case.number, "{}", case.name);
+    assert!(library == made::<Model>(case), "{}: the sides differ", case.name);
+}
+
+/// What a side makes of the case: answer, buffer and areas.
+fn made<S: Side>(case: &Case) -> (u64, [u32; OBJECT_WORDS], Areas) {
+    let mut side = S::lend(case.areas.clone());
+    let mut buffer = [0; OBJECT_WORDS];
+    let answer = side.perform(case.call, Lent { buffer: &mut buffer, image: &case.image });
+    (answer, buffer, side.back())
 }
 
 /// What reading the clock twice takes.

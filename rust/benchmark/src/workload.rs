@@ -2,10 +2,10 @@
 
 use std::time::{Duration, Instant};
 
-use kophdaen::{Answer, Store};
+use calls::{Call, Lent, Side};
+use kophdaen::{Answer, Store, OBJECT_WORDS};
 use model::layout::*;
 
-use crate::calls::{Call, Side};
 use crate::disk::{Disk, Sync};
 use crate::random::Random;
 use crate::states::{accept, Size};
@@ -123,8 +123,13 @@ impl<S: Side> Depot<S> {
     }
 
     fn call(&mut self, used: Use, call: Call) -> u32 {
+        self.call_with(used, call, &[])
+    }
+
+    fn call_with(&mut self, used: Use, call: Call, image: &[u32]) -> u32 {
         let started = (self.timed || used == Use::Collecting).then(Instant::now);
-        let answer = Answer::from_code(self.side.perform(&call));
+        let lent = Lent { buffer: &mut [0; OBJECT_WORDS], image };
+        let answer = Answer::from_code(self.side.perform(call, lent));
         accept(answer);
         if let Some(started) = started {
             self.times[used as usize] += started.elapsed().as_secs_f64();
@@ -146,7 +151,7 @@ impl<S: Side> Depot<S> {
         self.pass_step();
         for page in pages {
             let image = self.side.area(Area::Received)[page_range(page)].to_vec();
-            self.call(Use::Ending, Call::Flush(t, page as u32, image));
+            self.call_with(Use::Ending, Call::Flush(t, page as u32), &image);
             self.dirty[page] = true;
         }
         self.call(Use::Ending, Call::Commit(t));
@@ -212,12 +217,11 @@ impl<S: Side> Depot<S> {
     }
 
     fn force_all(&mut self) {
-        let from = self.side.area(Area::Counts)[1];
-        let to = self.side.area(Area::Counts)[0];
+        let [from, to] = [STABLE_COUNT, RECEIVED_COUNT].map(|count| self.side.area(Area::Counts)[count]);
         for record in from..to {
             self.call(Use::Forcing, Call::Force);
             if let Some(disk) = &mut self.disk {
-                disk.append(&self.side.area(Area::Log)[6 * record as usize..][..6]);
+                disk.append(&self.side.area(Area::Log)[RECORD_WORDS * record as usize..][..RECORD_WORDS]);
                 if disk.sync == Sync::EachForce || record + 1 == to {
                     disk.sync_log();
                 }
@@ -246,7 +250,7 @@ impl<S: Side> Depot<S> {
     fn drain(&mut self) {
         // A transaction's records, those reserved for its abort, and sweeps.
         let needed = 2 * RECORDS + self.plan.steps;
-        if self.side.area(Area::Counts)[0] as usize + needed <= self.plan.size.records {
+        if self.side.area(Area::Counts)[RECEIVED_COUNT] as usize + needed <= self.plan.size.records {
             return;
         }
         self.force_all();

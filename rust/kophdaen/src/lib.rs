@@ -28,9 +28,14 @@ impl Answer {
 }
 
 pub const PAGE_WORDS: usize = 129;
+pub const OBJECT_WORDS: usize = 8;
 pub const RECORD_WORDS: usize = 6;
+pub const COUNTS_WORDS: usize = 2;
 
-#[cfg(feature = "linked")]
+/// Words of the working tables.
+pub fn work_words(pages: usize) -> usize {
+    6 + 67 * pages
+}
+
 mod store;
-#[cfg(feature = "linked")]
 pub use store::Store;

@@ -1,4 +1,4 @@
-use crate::{Answer, PAGE_WORDS, RECORD_WORDS};
+use crate::{work_words, Answer, COUNTS_WORDS, PAGE_WORDS, RECORD_WORDS};
 
 /// Declares the C functions: the six areas as pointer and length in words, then the call's own
 /// arguments. include/kophdaen.h says which areas a call only reads.
@@ -34,10 +34,6 @@ declare! {
     kophdaen_empty_log();
     kophdaen_start_pass();
     kophdaen_pass_step();
-}
-
-#[cfg(feature = "reopening")]
-declare! {
     kophdaen_reopen();
     kophdaen_reopen_step();
 }
@@ -81,8 +77,8 @@ impl Store {
             copies: vec![0; PAGE_WORDS * pages],
             received: vec![0; PAGE_WORDS * pages],
             log: vec![0; RECORD_WORDS * records],
-            counts: vec![0; 2],
-            work: vec![0; 6 + 67 * pages],
+            counts: vec![0; COUNTS_WORDS],
+            work: vec![0; work_words(pages)],
         }
     }
 
@@ -147,12 +143,10 @@ impl Store {
         lend!(self, kophdaen_pass_step)
     }
 
-    #[cfg(feature = "reopening")]
     pub fn reopen(&mut self) -> Answer {
         lend!(self, kophdaen_reopen)
     }
 
-    #[cfg(feature = "reopening")]
     pub fn reopen_step(&mut self) -> Answer {
         lend!(self, kophdaen_reopen_step)
     }

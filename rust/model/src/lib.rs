@@ -442,20 +442,24 @@ impl Model {
         }
         let changes = old != word || self.has(Fault::PrtGainsUnchanged);
         if reference && old != 0 && changes {
-            let new_entry = self.areas.by_object(Table::Pruned, old) & bit(t) == 0;
-            *self.areas.object_table(Table::Pruned, old) |= bit(t);
-            // "A PRT entry made while marking turns a white target grey."
-            let greys = match self.fault {
-                Fault::PrunedStaysWhite => false,
-                Fault::GreyForNewEntriesOnly if !new_entry => false,
-                Fault::PrunedGreyInSweepToo => self.areas.work[PHASE] != NO_PASS,
-                _ => self.areas.work[PHASE] == MARKING,
-            };
-            if greys && self.areas.by_object(Table::Colours, old) == WHITE {
-                *self.areas.object_table(Table::Colours, old) = GREY;
-            }
+            self.prune(t, old);
         }
         Ok(self.received_count())
+    }
+
+    /// A PRT entry of t. "A PRT entry made while marking turns a white target grey."
+    fn prune(&mut self, t: u32, target: u32) {
+        let new_entry = self.areas.by_object(Table::Pruned, target) & bit(t) == 0;
+        *self.areas.object_table(Table::Pruned, target) |= bit(t);
+        let greys = match self.fault {
+            Fault::PrunedStaysWhite => false,
+            Fault::GreyForNewEntriesOnly if !new_entry => false,
+            Fault::PrunedGreyInSweepToo => self.areas.work[PHASE] != NO_PASS,
+            _ => self.areas.work[PHASE] == MARKING,
+        };
+        if greys && self.areas.by_object(Table::Colours, target) == WHITE {
+            *self.areas.object_table(Table::Colours, target) = GREY;
+        }
     }
 
     /// "Flush a page under the write lock: the image must equal the received page; the page copy
@@ -639,6 +643,13 @@ impl Model {
         if !(self.has(Fault::SkippedPageIsNoStep) && locks != 0) {
             self.count_step();
         }
+        self.leave_page(page);
+        let freed = map.count_ones();
+        Ok(if self.has(Fault::FreedCountUnlikeMap) && freed > 1 { freed - 1 } else { freed })
+    }
+
+    /// To the next page, or out of the pass.
+    fn leave_page(&mut self, page: usize) {
         let last = match self.fault {
             Fault::PassOverEarly => self.areas.pages().saturating_sub(2),
             _ => self.areas.pages() - 1,
@@ -653,8 +664,6 @@ impl Model {
         } else {
             self.areas.work[PASS_PAGE] += 1;
         }
-        let freed = map.count_ones();
-        Ok(if self.has(Fault::FreedCountUnlikeMap) && freed > 1 { freed - 1 } else { freed })
     }
 
     /// The map of the page's objects that the sweep frees: occupied in the copies, white, without

@@ -2,6 +2,8 @@
 
 use std::fmt;
 
+use calls::Call;
+use kophdaen::OBJECT_WORDS;
 use model::layout::*;
 
 /// The image that a flush sends, told from the state that the flush meets.
@@ -21,16 +23,15 @@ pub enum Image {
 }
 
 impl Image {
-    pub fn words(&self, areas: &Areas, page: u32) -> Vec<u32> {
-        let exists = |area: &Vec<u32>| area.len() / PAGE_WORDS > page as usize;
-        let page_of = |area: &Vec<u32>| match exists(area) {
-            true => area[page_range(page as usize)].to_vec(),
-            false => vec![0; PAGE_WORDS],
+    pub fn words(&self, received: &[u32], copies: &[u32], page: u32) -> Vec<u32> {
+        let page_of = |area: &[u32]| match area.get(page_range(page as usize)) {
+            Some(words) => words.to_vec(),
+            None => vec![0; PAGE_WORDS],
         };
-        let mut words = page_of(&areas.received);
+        let mut words = page_of(received);
         match *self {
             Image::Received => {}
-            Image::Copy => words = page_of(&areas.copies),
+            Image::Copy => words = page_of(copies),
             Image::Changed(at, word) => words[at] = word,
             Image::Long(len) => words.resize(len, 0),
             Image::Zeros => words.fill(0),
@@ -43,71 +44,68 @@ impl Image {
     }
 }
 
+/// What a call is lent beside the areas.
 #[derive(Clone, Debug, PartialEq)]
-pub enum Call {
-    Format,
-    Begin(u32),
-    Commit(u32),
-    Abort(u32),
-    LockRead(u32, u32),
-    LockWrite(u32, u32),
-    /// t, object, words of the buffer.
-    Read(u32, u32, usize),
-    Create(u32, u32),
-    SetWord(u32, u32, u32, u32),
-    Flush(u32, u32, Image),
-    Force,
-    StorePage(u32),
-    EmptyLog,
-    StartPass,
-    PassStep,
-    Reopen,
-    ReopenStep,
+pub enum Slice {
+    Nothing,
+    /// Read's buffer, of so many words.
+    Buffer(usize),
+    Image(Image),
 }
 
-pub const CALLS: [&str; 17] = [
-    "format", "begin", "commit", "abort", "lockr", "lockw", "read", "create", "set", "flush", "force", "store",
-    "empty", "pass", "step", "reopen", "restep",
-];
+/// A call with what it is lent.
+#[derive(Clone, Debug, PartialEq)]
+pub struct Request {
+    pub call: Call,
+    pub slice: Slice,
+}
 
-impl Call {
-    pub fn kind(&self) -> usize {
-        match self {
-            Call::Format => 0,
-            Call::Begin(..) => 1,
-            Call::Commit(..) => 2,
-            Call::Abort(..) => 3,
-            Call::LockRead(..) => 4,
-            Call::LockWrite(..) => 5,
-            Call::Read(..) => 6,
-            Call::Create(..) => 7,
-            Call::SetWord(..) => 8,
-            Call::Flush(..) => 9,
-            Call::Force => 10,
-            Call::StorePage(..) => 11,
-            Call::EmptyLog => 12,
-            Call::StartPass => 13,
-            Call::PassStep => 14,
-            Call::Reopen => 15,
-            Call::ReopenStep => 16,
+/// With the buffer that a read takes, and the image that a flush takes.
+impl From<Call> for Request {
+    fn from(call: Call) -> Request {
+        let slice = match call {
+            Call::Read(..) => Slice::Buffer(OBJECT_WORDS),
+            Call::Flush(..) => Slice::Image(Image::Received),
+            _ => Slice::Nothing,
+        };
+        Request { call, slice }
+    }
+}
+
+impl Request {
+    pub fn read(t: u32, object: u32, words: usize) -> Request {
+        Request { call: Call::Read(t, object), slice: Slice::Buffer(words) }
+    }
+
+    pub fn flush(t: u32, page: u32, image: Image) -> Request {
+        Request { call: Call::Flush(t, page), slice: Slice::Image(image) }
+    }
+
+    /// Words of the buffer.
+    pub fn buffer(&self) -> usize {
+        match self.slice {
+            Slice::Buffer(words) => words,
+            _ => 0,
+        }
+    }
+
+    /// The image, told from the received pages and the copies.
+    pub fn image(&self, received: &[u32], copies: &[u32]) -> Vec<u32> {
+        match (self.call, &self.slice) {
+            (Call::Flush(_, page), Slice::Image(image)) => image.words(received, copies, page),
+            _ => Vec::new(),
         }
     }
 }
 
-/// A call as the bench program writes it, with what it cannot say after a space.
-impl fmt::Display for Call {
+/// The call as the bench program writes it, with what that cannot say after a space.
+impl fmt::Display for Request {
     fn fmt(&self, out: &mut fmt::Formatter) -> fmt::Result {
-        let name = CALLS[self.kind()];
-        match self {
-            Call::Begin(t) | Call::Commit(t) | Call::Abort(t) => write!(out, "{name},{t}"),
-            Call::LockRead(t, x) | Call::LockWrite(t, x) | Call::Create(t, x) => write!(out, "{name},{t},{x}"),
-            Call::Read(t, x, 8) => write!(out, "{name},{t},{x}"),
-            Call::Read(t, x, n) => write!(out, "{name},{t},{x} (buffer of {n} words)"),
-            Call::SetWord(t, x, f, w) => write!(out, "{name},{t},{x},{f},{w}"),
-            Call::Flush(t, x, Image::Received) => write!(out, "{name},{t},{x}"),
-            Call::Flush(t, x, image) => write!(out, "{name},{t},{x} (image {image:?})"),
-            Call::StorePage(x) => write!(out, "{name},{x}"),
-            _ => write!(out, "{name}"),
+        write!(out, "{}", self.call)?;
+        match &self.slice {
+            Slice::Nothing | Slice::Buffer(OBJECT_WORDS) | Slice::Image(Image::Received) => Ok(()),
+            Slice::Buffer(words) => write!(out, " (buffer of {words} words)"),
+            Slice::Image(image) => write!(out, " (image {image:?})"),
         }
     }
 }
@@ -126,18 +124,24 @@ pub enum Filling {
 
 #[derive(Clone, Debug, PartialEq)]
 pub enum Action {
-    Call(Call),
+    Call(Request),
     /// The call, made while an area has another length; the area then has its length back.
-    Resized(Area, usize, Call),
+    Resized(Area, usize, Request),
     Cut,
     Poke(Area, usize, u32),
     Fill(Filling, u64),
 }
 
+impl From<Call> for Action {
+    fn from(call: Call) -> Action {
+        Action::Call(call.into())
+    }
+}
+
 impl Action {
-    pub fn call(&self) -> Option<&Call> {
+    pub fn call(&self) -> Option<Call> {
         match self {
-            Action::Call(call) | Action::Resized(_, _, call) => Some(call),
+            Action::Call(request) | Action::Resized(_, _, request) => Some(request.call),
             _ => None,
         }
     }
@@ -146,8 +150,8 @@ impl Action {
 impl fmt::Display for Action {
     fn fmt(&self, out: &mut fmt::Formatter) -> fmt::Result {
         match self {
-            Action::Call(call) => write!(out, "{call}"),
-            Action::Resized(area, len, call) => write!(out, "{call} ({area:?} of {len} words)"),
+            Action::Call(request) => write!(out, "{request}"),
+            Action::Resized(area, len, request) => write!(out, "{request} ({area:?} of {len} words)"),
             Action::Cut => write!(out, "cut"),
             Action::Poke(area, index, value) => write!(out, "poke,{area:?},{index},{value}"),
             Action::Fill(filling, seed) => write!(out, "fill,{filling:?},{seed}"),
@@ -196,7 +200,11 @@ pub fn place(area: Area, index: usize, pages: usize) -> String {
             let (page, word) = (index / PAGE_WORDS, index % PAGE_WORDS);
             match word {
                 0 => format!("{area:?} page {page} map"),
-                _ => format!("{area:?} page {page} slot {} word {}", (word - 1) / 8, (word - 1) % 8),
+                _ => format!(
+                    "{area:?} page {page} slot {} word {}",
+                    (word - 1) / OBJECT_WORDS,
+                    (word - 1) % OBJECT_WORDS
+                ),
             }
         }
     }

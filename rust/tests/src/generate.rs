@@ -1,6 +1,8 @@
 //! Random lists led by the state, so that they go deep: most calls are ones that the state takes,
 //! the log is drained when it is full, passes and reopenings run to their end.
 
+use calls::Call;
+use kophdaen::OBJECT_WORDS;
 use model::layout::*;
 
 use crate::actions::*;
@@ -46,7 +48,7 @@ impl Generator {
             self.begun = true;
             return match self.style.filling {
                 Some(filling) => Action::Fill(filling, self.random.next()),
-                None => Action::Call(Call::Format),
+                None => Call::Format.into(),
             };
         }
         match self.restore.take() {
@@ -63,8 +65,8 @@ impl Generator {
             return self.damage(a);
         }
         if roll < cuts + damage + lengths {
-            let call = self.call(a);
-            return self.resized(a, call);
+            let request = self.call(a);
+            return self.resized(a, request);
         }
         if let Some(filling) = self.style.filling {
             let every = if filling == Filling::Sound { 12 } else { 4 };
@@ -76,7 +78,7 @@ impl Generator {
         Action::Call(self.call(a))
     }
 
-    fn resized(&mut self, a: &Areas, call: Call) -> Action {
+    fn resized(&mut self, a: &Areas, request: Request) -> Action {
         let r = &mut self.random;
         let area = AREAS[r.below(6)];
         let old = a.of(area).len();
@@ -91,7 +93,7 @@ impl Generator {
             6 if area == Area::Stored => PAGE_WORDS * 257,
             _ => old + r.below(70),
         };
-        Action::Resized(area, len, call)
+        Action::Resized(area, len, request)
     }
 
     /// One damaged word, in any area and any working table.
@@ -131,12 +133,12 @@ impl Generator {
         Action::Poke(area, index, value)
     }
 
-    fn call(&mut self, a: &Areas) -> Call {
+    fn call(&mut self, a: &Areas) -> Request {
         if self.burst.1 > 0 {
             self.burst.1 -= 1;
             let goes_on = a.work[REOPENING] == 2 && (self.burst.0 == Call::Force || a.work[PHASE] != NO_PASS);
             if goes_on {
-                return self.burst.0.clone();
+                return self.burst.0.into();
             }
             self.burst.1 = 0;
         }
@@ -145,22 +147,22 @@ impl Generator {
         }
         match a.work[REOPENING] {
             0 => match self.random.below(20) {
-                0 => Call::ReopenStep,
-                1 if self.random.percent(10) => Call::Format,
+                0 => Call::ReopenStep.into(),
+                1 if self.random.percent(10) => Call::Format.into(),
                 2 => self.wild(a),
-                _ => Call::Reopen,
+                _ => Call::Reopen.into(),
             },
             1 => match self.random.below(40) {
-                0 => Call::Reopen,
+                0 => Call::Reopen.into(),
                 1..=3 => self.wild(a),
-                _ => Call::ReopenStep,
+                _ => Call::ReopenStep.into(),
             },
             _ => self.led(a),
         }
     }
 
     /// Any call with arguments about their bounds.
-    fn wild(&mut self, a: &Areas) -> Call {
+    fn wild(&mut self, a: &Areas) -> Request {
         let pages = a.pages();
         let r = &mut self.random;
         let number = |r: &mut Random, n: usize| match r.below(12) {
@@ -177,17 +179,17 @@ impl Generator {
             0 => odd_word(0, pages, r),
             _ => number(r, SLOTS * pages + 1),
         };
-        match r.below(34) {
+        let call = match r.below(34) {
             0 if r.percent(10) => Call::Format,
             0..=2 => Call::Begin(t),
             3 | 4 => Call::Commit(t),
             5 | 6 => Call::Abort(t),
             7 | 8 => Call::LockRead(t, page),
             9 | 10 => Call::LockWrite(t, page),
-            11 | 12 => Call::Read(t, object, if r.percent(80) { 8 } else { r.below(20) }),
+            11 | 12 => return Request::read(t, object, if r.percent(80) { OBJECT_WORDS } else { r.below(20) }),
             13 | 14 => Call::Create(t, object),
             15..=18 => Call::SetWord(t, object, field, word),
-            19..=21 => Call::Flush(t, page, image(r)),
+            19..=21 => return Request::flush(t, page, image(r)),
             22 | 23 => Call::Force,
             24 | 25 => Call::StorePage(page),
             26 => Call::EmptyLog,
@@ -195,22 +197,21 @@ impl Generator {
             28..=30 => Call::PassStep,
             31 if r.percent(20) => Call::Reopen,
             _ => Call::ReopenStep,
-        }
+        };
+        call.into()
     }
 
     /// A call that the state takes, mostly.
-    fn led(&mut self, a: &Areas) -> Call {
+    fn led(&mut self, a: &Areas) -> Request {
         let records = a.log.len() / RECORD_WORDS;
         let active: Vec<u32> = (0..16).filter(|&t| a.work[ACTIVE] & bit(t) != 0).collect();
         let room = records as isize - a.received_count() as isize - reserved(a) as isize;
         if room < 2 && self.random.percent(60) {
             return self.drain(a, &active);
         }
-        let r = &mut self.random;
         let pass = a.work[PHASE] != NO_PASS;
-        let begin = if active.len() < self.style.crowd { 12 } else { 1 };
         let weights = [
-            begin,
+            if active.len() < self.style.crowd { 12 } else { 1 }, // begin
             if active.is_empty() { 0 } else { 100 },
             8,                         // force
             6,                         // store
@@ -220,39 +221,45 @@ impl Generator {
             1,                         // reopen, one time in six
             1,                         // drain
         ];
-        match r.weighted(&weights) {
-            0 => Call::Begin(r.below(self.style.crowd + 1) as u32 % 16),
+        match self.random.weighted(&weights) {
+            0 => Call::Begin(self.random.below(self.style.crowd + 1) as u32 % 16).into(),
             1 => {
-                let t = r.pick(&active).unwrap();
+                let t = self.random.pick(&active).unwrap();
                 self.of_transaction(a, t)
             }
-            2 => {
-                if r.percent(30) {
-                    let unstable = a.received_count().saturating_sub(a.stable_count());
-                    self.burst = (Call::Force, unstable.saturating_sub(1));
-                }
-                Call::Force
-            }
-            3 => Call::StorePage(self.page()),
-            4 => Call::EmptyLog,
-            5 => Call::StartPass,
-            7 if r.below(6) == 0 => Call::Reopen,
-            7 => Call::Force,
+            2 => self.force(a).into(),
+            3 => Call::StorePage(self.page()).into(),
+            4 => Call::EmptyLog.into(),
+            5 => Call::StartPass.into(),
+            7 if self.random.below(6) == 0 => Call::Reopen.into(),
+            7 => Call::Force.into(),
             8 => self.drain(a, &active),
-            _ => {
-                if r.percent(20) {
-                    self.burst = (Call::PassStep, r.below(20));
-                }
-                Call::PassStep
-            }
+            _ => self.step().into(),
         }
+    }
+
+    /// One force, or the first of as many as make every record stable.
+    fn force(&mut self, a: &Areas) -> Call {
+        if self.random.percent(30) {
+            let unstable = a.received_count().saturating_sub(a.stable_count());
+            self.burst = (Call::Force, unstable.saturating_sub(1));
+        }
+        Call::Force
+    }
+
+    /// One step, or the first of some.
+    fn step(&mut self) -> Call {
+        if self.random.percent(20) {
+            self.burst = (Call::PassStep, self.random.below(20));
+        }
+        Call::PassStep
     }
 
     fn page(&mut self) -> u32 {
         self.random.pick(&self.hot).unwrap()
     }
 
-    fn of_transaction(&mut self, a: &Areas, t: u32) -> Call {
+    fn of_transaction(&mut self, a: &Areas, t: u32) -> Request {
         let written: Vec<u32> =
             (0..a.pages() as u32).filter(|&p| a.get(Table::Writers, p as usize) & bit(t) != 0).collect();
         let weights = match written.is_empty() {
@@ -260,63 +267,74 @@ impl Generator {
             false => [4, 6, 12, 18, 34, 10, 5, 2],
         };
         match self.random.weighted(&weights) {
-            0 => Call::LockRead(t, self.page()),
-            1 => {
-                let others =
-                    |p: u32| (a.get(Table::Writers, p as usize) | a.get(Table::Readers, p as usize)) & !bit(t);
-                let open: Vec<u32> = self.hot.iter().copied().filter(|&p| others(p) == 0).collect();
-                match self.random.pick(&open) {
-                    Some(page) if self.random.percent(85) => Call::LockWrite(t, page),
-                    _ => Call::LockWrite(t, self.page()),
-                }
-            }
-            2 => {
-                let locked = |o: u32| {
-                    let p = page_of(o);
-                    (a.get(Table::Writers, p) | a.get(Table::Readers, p)) & bit(t) != 0
-                };
-                let object = self.known(a, t, locked).unwrap_or(ROOT);
-                let buffer = if self.random.percent(98) { 8 } else { self.random.below(12) };
-                Call::Read(t, object, buffer)
-            }
-            3 => {
-                let page = self.random.pick(&written).unwrap_or(0) as usize;
-                let full = self.random.below(16) == 0;
-                let free: Vec<u32> =
-                    (0..SLOTS).map(|s| object_at(page, s)).filter(|&o| occupied(&a.received, o) == full).collect();
-                Call::Create(t, self.random.pick(&free).unwrap_or(ROOT + 1))
-            }
-            4 => {
-                let writable = |o: u32| a.get(Table::Writers, page_of(o)) & bit(t) != 0;
-                let object = self.known(a, t, writable).unwrap_or(ROOT);
-                let field = if self.random.percent(75) { self.random.below(4) } else { self.random.below(8) };
-                let word = match self.random.below(10) {
-                    0..=2 => 0,
-                    3 => a.received[word_at(object, field)],
-                    4 if field < 4 && self.random.percent(40) => self.existing(a),
-                    _ if field < 4 => self.known(a, t, |_| true).unwrap_or(0),
-                    _ => self.random.word(),
-                };
-                Call::SetWord(t, object, field as u32, word)
-            }
+            0 => Call::LockRead(t, self.page()).into(),
+            1 => self.lock_write(a, t).into(),
+            2 => self.read(a, t),
+            3 => self.create(a, t, &written).into(),
+            4 => self.set_word(a, t).into(),
             5 => self.flush(a, t, &written),
             6 if self.unflushed(a, t).is_some() && self.random.percent(85) => self.flush(a, t, &written),
-            6 => Call::Commit(t),
-            _ => Call::Abort(t),
+            6 => Call::Commit(t).into(),
+            _ => Call::Abort(t).into(),
         }
+    }
+
+    /// Mostly of a page that no other holds.
+    fn lock_write(&mut self, a: &Areas, t: u32) -> Call {
+        let others = |p: u32| (a.get(Table::Writers, p as usize) | a.get(Table::Readers, p as usize)) & !bit(t);
+        let open: Vec<u32> = self.hot.iter().copied().filter(|&p| others(p) == 0).collect();
+        match self.random.pick(&open) {
+            Some(page) if self.random.percent(85) => Call::LockWrite(t, page),
+            _ => Call::LockWrite(t, self.page()),
+        }
+    }
+
+    /// Of a known object under a lock.
+    fn read(&mut self, a: &Areas, t: u32) -> Request {
+        let locked = |o: u32| {
+            let p = page_of(o);
+            (a.get(Table::Writers, p) | a.get(Table::Readers, p)) & bit(t) != 0
+        };
+        let object = self.known(a, t, locked).unwrap_or(ROOT);
+        let words = if self.random.percent(98) { OBJECT_WORDS } else { self.random.below(12) };
+        Request::read(t, object, words)
+    }
+
+    /// In a free slot, seldom in an occupied one.
+    fn create(&mut self, a: &Areas, t: u32, written: &[u32]) -> Call {
+        let page = self.random.pick(written).unwrap_or(0) as usize;
+        let full = self.random.below(16) == 0;
+        let free: Vec<u32> =
+            (0..SLOTS).map(|s| object_at(page, s)).filter(|&o| occupied(&a.received, o) == full).collect();
+        Call::Create(t, self.random.pick(&free).unwrap_or(ROOT + 1))
+    }
+
+    /// Of a known object, to nothing, to the word that it has, to an object known or not, or to data.
+    fn set_word(&mut self, a: &Areas, t: u32) -> Call {
+        let writable = |o: u32| a.get(Table::Writers, page_of(o)) & bit(t) != 0;
+        let object = self.known(a, t, writable).unwrap_or(ROOT);
+        let field = if self.random.percent(75) { self.random.below(4) } else { self.random.below(8) };
+        let word = match self.random.below(10) {
+            0..=2 => 0,
+            3 => a.received[word_at(object, field)],
+            4 if field < 4 && self.random.percent(40) => self.existing(a),
+            _ if field < 4 => self.known(a, t, |_| true).unwrap_or(0),
+            _ => self.random.word(),
+        };
+        Call::SetWord(t, object, field as u32, word)
     }
 
     fn unflushed(&mut self, a: &Areas, t: u32) -> Option<u32> {
         (0..a.pages()).find(|&p| a.get(Table::Unflushed, p) & bit(t) != 0).map(|p| p as u32)
     }
 
-    fn flush(&mut self, a: &Areas, t: u32, written: &[u32]) -> Call {
+    fn flush(&mut self, a: &Areas, t: u32, written: &[u32]) -> Request {
         let page = match self.unflushed(a, t) {
             Some(page) if self.random.percent(85) => page,
             _ => self.random.pick(written).unwrap_or(0),
         };
         let image = if self.random.percent(88) { Image::Received } else { image(&mut self.random) };
-        Call::Flush(t, page, image)
+        Request::flush(t, page, image)
     }
 
     /// An object that t knows.
@@ -337,21 +355,22 @@ impl Generator {
     }
 
     /// A call on the way to an empty log.
-    fn drain(&mut self, a: &Areas, active: &[u32]) -> Call {
+    fn drain(&mut self, a: &Areas, active: &[u32]) -> Request {
         if let Some(t) = self.random.pick(active) {
-            return match self.unflushed(a, t) {
-                Some(page) if self.random.percent(80) => Call::Flush(t, page, Image::Received),
+            let call = match self.unflushed(a, t) {
+                Some(page) if self.random.percent(80) => Call::Flush(t, page),
                 Some(_) => Call::Abort(t),
                 None => Call::Commit(t),
             };
+            return call.into();
         }
         if a.stable_count() < a.received_count() {
-            return Call::Force;
+            return Call::Force.into();
         }
         let unlike = (0..a.pages()).find(|&p| a.copies[page_range(p)] != a.stored[page_range(p)]);
         match unlike {
-            Some(page) => Call::StorePage(page as u32),
-            None => Call::EmptyLog,
+            Some(page) => Call::StorePage(page as u32).into(),
+            None => Call::EmptyLog.into(),
         }
     }
 }
@@ -410,6 +429,19 @@ pub enum Scope {
 /// Size, style and length of a list.
 pub fn plan(random: &mut Random, scope: Scope) -> (usize, usize, Style, usize) {
     let large = scope == Scope::Large;
+    let (pages, records) = size(random, large);
+    let style = style(random, scope);
+    let calls = match style.filling {
+        None if large => random.between(200, 3000),
+        None => random.between(100, 1200),
+        Some(Filling::Sound) => random.between(100, 900),
+        Some(_) => random.between(20, 300),
+    };
+    (pages, records, style, calls)
+}
+
+/// Pages and records.
+fn size(random: &mut Random, large: bool) -> (usize, usize) {
     let pages = match random.weighted(&[30, 25, 15, 15, 15]) {
         0 => 1,
         1 => 2,
@@ -426,19 +458,22 @@ pub fn plan(random: &mut Random, scope: Scope) -> (usize, usize, Style, usize) {
         _ if large => random.between(100, 4096),
         _ => random.between(90, 160),
     };
-    let (pages, records) = match random.below(8) {
+    match random.below(8) {
         0 if large => (256, 4096),
         1 if large => (256, records),
         2 if large => (pages, 4096),
         _ => (pages, records),
-    };
+    }
+}
+
+fn style(random: &mut Random, scope: Scope) -> Style {
     let crowd = random.pick(&[1, 1, 2, 2, 3, 3, 5, 16]).unwrap();
     let plain = Style { cuts: 3, damage: 0, lengths: 4, wild: 40, crowd, filling: None };
     let styles = match scope {
         Scope::Legal => [45, 20, 0, 0, 0, 0, 0],
         _ => [45, 20, 15, 15, 2, 10, 6],
     };
-    let style = match random.weighted(&styles) {
+    match random.weighted(&styles) {
         0 => plain,
         1 => Style { cuts: 12, wild: 20, ..plain },
         2 => Style { damage: 150, ..plain },
@@ -446,12 +481,5 @@ pub fn plan(random: &mut Random, scope: Scope) -> (usize, usize, Style, usize) {
         4 => Style { wild: 600, filling: Some(Filling::Noise), ..plain },
         5 => Style { filling: Some(Filling::Reopening), ..plain },
         _ => Style { filling: Some(Filling::Damaged), ..plain },
-    };
-    let calls = match style.filling {
-        None if large => random.between(200, 3000),
-        None => random.between(100, 1200),
-        Some(Filling::Sound) => random.between(100, 900),
-        Some(_) => random.between(20, 300),
-    };
-    (pages, records, style, calls)
+    }
 }

@@ -25,12 +25,9 @@ use std::time::Instant;
 use actions::List;
 use generate::{plan, Generator, Scope};
 use model::layout::*;
-use model::Fault;
 use random::Random;
 use run::{report, Pair, Tally};
-use sides::Kind;
-
-const MODEL: Kind = Kind::Model(Fault::None);
+use sides::{Kind, MODEL};
 
 struct Options {
     seed: u64,
@@ -89,9 +86,9 @@ fn usage<T>() -> T {
 }
 
 fn run_examples() -> bool {
-    match examples::run(Kind::PROVED, MODEL) {
+    match examples::run(Kind::Library, MODEL) {
         Ok(calls) => {
-            println!("examples: {} against model, {calls} calls, no difference", Kind::PROVED.name());
+            println!("examples: {} against model, {calls} calls, no difference", Kind::Library.name());
             true
         }
         Err(what) => {
@@ -136,23 +133,20 @@ pub fn random_lists(
 }
 
 fn run_random(options: &Options) -> bool {
-    if Kind::PROVED == MODEL {
-        println!("random: no library is linked (build with --features library); model against itself");
-    }
     let mut tally = Tally::new();
     let started = Instant::now();
-    let found = random_lists(Kind::PROVED, MODEL, options.seed, options.calls, options.scope(), &mut tally);
+    let found = random_lists(Kind::Library, MODEL, options.seed, options.calls, options.scope(), &mut tally);
     let seconds = started.elapsed().as_secs_f64();
     tally.print();
     println!("{:.1} s, {:.0} calls per second, seed {}", seconds, tally.calls as f64 / seconds, options.seed);
     match found {
         None => {
-            println!("random: {} against model, no difference", Kind::PROVED.name());
+            println!("random: {} against model, no difference", Kind::Library.name());
             true
         }
         Some((list, calls)) => {
             println!("after {calls} calls:");
-            report(&list, Kind::PROVED, MODEL);
+            report(&list, Kind::Library, MODEL);
             false
         }
     }

@@ -10,15 +10,16 @@ use std::io::Write as _;
 use std::process::{Command, Stdio};
 use std::time::Instant;
 
+use calls::{Call, Lent, Side};
+use kophdaen::OBJECT_WORDS;
 use model::layout::*;
-use model::{coded, Fault, Model};
+use model::{Fault, Model};
 
 use crate::actions::*;
 use crate::generate::{plan, Generator, Scope};
 use crate::random::Random;
 use crate::rubbish::fill;
 use crate::run::Tally;
-use crate::sides::Side;
 
 const SINGLES: [&str; 6] = ["reopening", "reopening_page", "phase", "pass_page", "pass_steps", "active"];
 /// The protocol's tables: name, table, number of the first entry.
@@ -46,11 +47,11 @@ fn script(list: &List) -> Script {
     model.format().unwrap();
     for (i, action) in list.actions.iter().enumerate() {
         match action {
-            Action::Call(Call::Format) | Action::Resized(_, _, Call::Format) => {
+            Action::Call(request) | Action::Resized(_, _, request) if request.call == Call::Format => {
                 model.format().unwrap();
                 script.input.push_str(&init);
             }
-            Action::Call(call) | Action::Resized(_, _, call) => script.call(i, &mut model, call),
+            Action::Call(request) | Action::Resized(_, _, request) => script.call(i, &mut model, request),
             Action::Cut => {
                 model.cut();
                 script.input.push_str("cut\n");
@@ -75,21 +76,21 @@ fn script(list: &List) -> Script {
 }
 
 impl Script {
-    fn call(&mut self, i: usize, model: &mut Model, call: &Call) {
-        let mut buffer = [0; 8];
-        let mut image = Vec::new();
+    fn call(&mut self, i: usize, model: &mut Model, request: &Request) {
+        let call = request.call;
+        let mut buffer = [0; OBJECT_WORDS];
+        let image = request.image(&model.areas.received, &model.areas.copies);
         match call {
-            Call::Read(t, object, _) => writeln!(self.input, "readw,{t},{object}").unwrap(),
-            Call::Flush(t, page, kind) => {
-                image = kind.words(&model.areas, *page);
+            Call::Read(t, object) => writeln!(self.input, "readw,{t},{object}").unwrap(),
+            Call::Flush(t, page) => {
                 write!(self.input, "flushi,{t},{page}").unwrap();
                 image.iter().for_each(|word| write!(self.input, ",{word}").unwrap());
                 self.input.push('\n');
             }
             _ => writeln!(self.input, "{call}").unwrap(),
         }
-        let answer = model.perform(call, &image, &mut buffer).unwrap();
-        if *call == Call::PassStep && model.areas.work[PASS_STEP] == 17 * model.areas.pages() as u32 {
+        let answer = model.perform(call, Lent { buffer: &mut buffer, image: &image });
+        if call == Call::PassStep && model.areas.work[PASS_STEP] == 17 * model.areas.pages() as u32 {
             // the oracle counts on past the bound of DECISIONS 35
             writeln!(self.input, "poke,W,pass_steps,0,{}", model.areas.work[PASS_STEP]).unwrap();
         }
@@ -227,7 +228,7 @@ pub fn run(program: &str, seed: u64, calls: u64, scope: Scope) -> bool {
             let (pages, records, style, length) = plan(&mut random, scope);
             let mut generator = Generator::new(random, style, pages);
             let mut model = Model { fault: Fault::None, ..Model::new(pages, records) };
-            let mut list = List { pages, records, actions: vec![Action::Call(Call::Format)] };
+            let mut list = List { pages, records, actions: vec![Call::Format.into()] };
             model.format().unwrap();
             while list.actions.len() < length && tally.calls < until {
                 let sweeping = model.areas.work[PHASE] == SWEEPING;
@@ -256,10 +257,9 @@ pub fn run(program: &str, seed: u64, calls: u64, scope: Scope) -> bool {
 /// has one), so that one is not damaged above it.
 fn sayable(action: Action, pages: usize) -> Action {
     match action {
-        Action::Call(Call::Read(t, object, _)) | Action::Resized(_, _, Call::Read(t, object, _)) => {
-            Action::Call(Call::Read(t, object, 8))
-        }
-        Action::Resized(_, _, call) => Action::Call(call),
+        Action::Call(Request { call: call @ Call::Read(..), .. }) => call.into(),
+        Action::Resized(_, _, Request { call: call @ Call::Read(..), .. }) => call.into(),
+        Action::Resized(_, _, request) => Action::Call(request),
         Action::Poke(Area::Work, PASS_STEP, value) => {
             Action::Poke(Area::Work, PASS_STEP, value % (17 * pages as u32 + 1))
         }
@@ -270,12 +270,9 @@ fn sayable(action: Action, pages: usize) -> Action {
 /// The action on the model alone.
 fn follow(model: &mut Model, action: &Action) -> u64 {
     match action {
-        Action::Call(call) | Action::Resized(_, _, call) => {
-            let image = match call {
-                Call::Flush(_, page, kind) => kind.words(&model.areas, *page),
-                _ => Vec::new(),
-            };
-            return model.perform(call, &image, &mut [0; 8]).unwrap_or(coded(Ok(0)));
+        Action::Call(request) | Action::Resized(_, _, request) => {
+            let image = request.image(&model.areas.received, &model.areas.copies);
+            return model.perform(request.call, Lent { buffer: &mut [0; OBJECT_WORDS], image: &image });
         }
         Action::Cut => model.cut(),
         Action::Poke(area, index, value) => model.areas.of_mut(*area)[*index] = *value,

@@ -10,12 +10,8 @@ use crate::run::{report, Tally};
 use crate::sides::Kind;
 use crate::{examples, random_lists};
 
-/// The side that a fault is held against. A library without reopening takes what the other side
-/// made of it, and would not notice a fault there.
-#[cfg(feature = "reopening")]
-pub const UNCHANGED: Kind = Kind::PROVED;
-#[cfg(not(feature = "reopening"))]
-pub const UNCHANGED: Kind = Kind::Model(Fault::None);
+/// The side that a fault is held against.
+const UNCHANGED: Kind = Kind::Library;
 
 /// After how many calls of random lists the fault is noticed.
 fn noticed(fault: Fault, seed: u64, calls: u64, scope: Scope) -> Option<u64> {

@@ -91,7 +91,6 @@ fn sweep_record(pages: usize, random: &mut Random) -> [u32; 6] {
 
 fn sound(areas: &mut Areas, random: &mut Random) {
     let pages = areas.pages();
-    let records = areas.log.len() / RECORD_WORDS;
     sound_pages(&mut areas.received, pages, random);
     match random.below(3) {
         0 => sound_pages(&mut areas.copies, pages, random),
@@ -102,6 +101,13 @@ fn sound(areas: &mut Areas, random: &mut Random) {
         1 => sound_pages(&mut areas.stored, pages, random),
         _ => areas.stored.clone_from(&areas.copies),
     }
+    sound_log(areas, random);
+    sound_work(areas, random);
+    single_holders(areas, random);
+}
+
+fn sound_log(areas: &mut Areas, random: &mut Random) {
+    let records = areas.log.len() / RECORD_WORDS;
     // many calls need room: the log is full now and then only
     let received = match random.below(4) {
         0 => records,
@@ -109,15 +115,22 @@ fn sound(areas: &mut Areas, random: &mut Random) {
         _ => random.below(records.min(40) + 1),
     };
     for i in 0..records {
-        let record = sound_record(pages, random);
+        let record = sound_record(areas.pages(), random);
         if i < received || random.percent(50) {
-            areas.log[RECORD_WORDS * i..][..RECORD_WORDS].copy_from_slice(&record);
+            put(areas, i, record);
         }
     }
     areas.counts[RECEIVED_COUNT] = received as u32;
     areas.counts[STABLE_COUNT] =
         if random.percent(40) { received as u32 } else { random.below(received + 1) as u32 };
+}
 
+fn put(areas: &mut Areas, i: usize, record: [u32; 6]) {
+    areas.log[RECORD_WORDS * i..][..RECORD_WORDS].copy_from_slice(&record);
+}
+
+fn sound_work(areas: &mut Areas, random: &mut Random) {
+    let pages = areas.pages();
     // few transactions meet often
     let among = random.pick(&[0b11, 0b111, 0xffff]).unwrap();
     let thins = [1, 2, 3, 8, 40];
@@ -140,9 +153,12 @@ fn sound(areas: &mut Areas, random: &mut Random) {
             areas.work[table.first(pages) + i] = word;
         }
     }
-    // pages with one holder, of either lock or both
-    let holders: Vec<u32> = (0..16).filter(|&t| areas.work[ACTIVE] & bit(t) != 0).collect();
-    for page in 0..pages {
+}
+
+/// Pages with one holder, of either lock or both.
+fn single_holders(areas: &mut Areas, random: &mut Random) {
+    let holders = transactions_in(areas.work[ACTIVE]);
+    for page in 0..areas.pages() {
         if let (Some(t), true) = (random.pick(&holders), random.percent(40)) {
             let locks = random.between(1, 3) as u32;
             *areas.page_table(Table::Readers, page) = bit(t) * (locks & 1);
@@ -151,12 +167,15 @@ fn sound(areas: &mut Areas, random: &mut Random) {
     }
 }
 
+fn transactions_in(mask: u32) -> Vec<u32> {
+    (0..16).filter(|&t| mask & bit(t) != 0).collect()
+}
+
 /// Stored pages and a stable log in the order that calls make, mostly with sets of occupied slots,
 /// so that the replay goes through. Some logs have one record out of order, some have records of
 /// all kinds anywhere.
 fn reopening(areas: &mut Areas, random: &mut Random) {
     let pages = areas.pages();
-    let objects = SLOTS * pages;
     let records = areas.log.len() / RECORD_WORDS;
     noise(areas, random);
     areas.stored.fill(0);
@@ -169,34 +188,9 @@ fn reopening(areas: &mut Areas, random: &mut Random) {
     let mut shown = areas.stored.clone();
     let mut running: u32 = 0;
     for i in 0..stable {
-        let begun: Vec<u32> = (0..16).filter(|&t| running & bit(t) != 0).collect();
-        let numbers = if i % 2 == 0 { 4 } else { 16 };
-        let other = random.below(numbers) as u32;
-        let record = match random.pick(&begun) {
-            Some(t) => {
-                let object = random.between(2, objects) as u32;
-                let full: Vec<u32> = (1..=objects as u32).filter(|&o| occupied(&shown, o)).collect();
-                let full = random.pick(&full).unwrap_or(1);
-                match random.weighted(&[10, 20, 45, 8, 5, 5, 5]) {
-                    0 if running & bit(other) == 0 => [1, other, 0, 0, 0, 0],
-                    1 => [2, t, object, 0, 0, 0],
-                    3 => [4, t, 0, 0, 0, 0],
-                    4 => [5, t, 0, 0, 0, 0],
-                    5 => [6, t, object, 0, 0, 0],
-                    6 => sweep_record(pages, random),
-                    _ => {
-                        let full = if random.below(60) == 0 { object } else { full };
-                        let mut record = set_record(t, full, pages, random);
-                        if random.percent(80) {
-                            record[4] = shown[word_at(full, record[3] as usize)];
-                        }
-                        record
-                    }
-                }
-            }
-            None if random.percent(10) => sweep_record(pages, random),
-            None => [1, other, 0, 0, 0, 0],
-        };
+        let begun = transactions_in(running);
+        let other = random.below(if i % 2 == 0 { 4 } else { 16 }) as u32;
+        let record = in_order(&shown, pages, &begun, other, random);
         let record = match i {
             _ if random.percent(wild) => sound_record(pages, random),
             _ if i == stray => out_of_order(&begun, other, random),
@@ -208,7 +202,34 @@ fn reopening(areas: &mut Areas, random: &mut Random) {
             _ => {}
         }
         model::recover::take_effect(&mut shown, record);
-        areas.log[RECORD_WORDS * i..][..RECORD_WORDS].copy_from_slice(&record);
+        put(areas, i, record);
+    }
+}
+
+/// A record that may follow: of one begun, or the begin of another.
+fn in_order(shown: &[u32], pages: usize, begun: &[u32], other: u32, random: &mut Random) -> [u32; 6] {
+    let objects = SLOTS * pages;
+    let Some(t) = random.pick(begun) else {
+        return if random.percent(10) { sweep_record(pages, random) } else { [1, other, 0, 0, 0, 0] };
+    };
+    let object = random.between(2, objects) as u32;
+    let full: Vec<u32> = (1..=objects as u32).filter(|&o| occupied(shown, o)).collect();
+    let full = random.pick(&full).unwrap_or(1);
+    match random.weighted(&[10, 20, 45, 8, 5, 5, 5]) {
+        0 if !begun.contains(&other) => [1, other, 0, 0, 0, 0],
+        1 => [2, t, object, 0, 0, 0],
+        3 => [4, t, 0, 0, 0, 0],
+        4 => [5, t, 0, 0, 0, 0],
+        5 => [6, t, object, 0, 0, 0],
+        6 => sweep_record(pages, random),
+        _ => {
+            let full = if random.below(60) == 0 { object } else { full };
+            let mut record = set_record(t, full, pages, random);
+            if random.percent(80) {
+                record[4] = shown[word_at(full, record[3] as usize)];
+            }
+            record
+        }
     }
 }
 

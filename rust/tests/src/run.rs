@@ -3,12 +3,13 @@
 
 use std::panic::{catch_unwind, AssertUnwindSafe};
 
+use calls::{Call, Lent, Side, NAMES};
 use model::layout::*;
 use model::{Fault, Model};
 
 use crate::actions::*;
 use crate::rubbish::fill;
-use crate::sides::*;
+use crate::sides::Kind;
 
 pub struct Pair {
     pub left: Box<dyn Side>,
@@ -20,7 +21,7 @@ pub struct Pair {
 /// The answers that a run saw, by call and answer number (16 for others), and what it reached.
 #[derive(Clone)]
 pub struct Tally {
-    pub answers: [[u64; 17]; 17],
+    pub answers: Vec<[u64; 17]>,
     pub calls: u64,
     pub cuts: u64,
     pub freed: u64,
@@ -28,15 +29,16 @@ pub struct Tally {
 
 impl Tally {
     pub fn new() -> Tally {
-        Tally { answers: [[0; 17]; 17], calls: 0, cuts: 0, freed: 0 }
+        Tally { answers: vec![[0; 17]; NAMES.len()], calls: 0, cuts: 0, freed: 0 }
     }
 
     pub fn note(&mut self, action: &Action, answer: u64, sweeping: bool) {
         if let Some(call) = action.call() {
             self.calls += 1;
             let number = ((answer >> 32) as usize).min(16);
-            self.answers[call.kind()][number] += 1;
-            if number == 0 && sweeping && *call == Call::PassStep {
+            let kind = NAMES.iter().position(|&name| name == call.name()).unwrap();
+            self.answers[kind][number] += 1;
+            if number == 0 && sweeping && call == Call::PassStep {
                 self.freed += answer & 0xffff_ffff;
             }
         }
@@ -49,7 +51,7 @@ impl Tally {
         print!("{:>8}", "call");
         (0..15).for_each(|n| print!("{n:>8}"));
         println!();
-        for (name, row) in CALLS.iter().zip(&self.answers) {
+        for (name, row) in NAMES.iter().zip(&self.answers) {
             print!("{name:>8}");
             row[..15].iter().for_each(|n| print!("{n:>8}"));
             println!();
@@ -77,23 +79,8 @@ impl Pair {
     /// Does the action on both sides: the left side's answer, or what differs.
     pub fn step(&mut self, action: &Action) -> Result<u64, String> {
         match action {
-            Action::Call(call) => self.call(call),
-            Action::Resized(area, len, call) => {
-                let [left, right] = [&mut self.left, &mut self.right].map(|side| {
-                    let words = side.area_mut(*area);
-                    let tail = words.get(*len..).unwrap_or(&[]).to_vec();
-                    let before = words.len();
-                    words.resize(*len, 0);
-                    (before, tail)
-                });
-                let answer = self.call(call)?;
-                for (side, (before, tail)) in [(&mut self.left, left), (&mut self.right, right)] {
-                    let words = side.area_mut(*area);
-                    words.extend(tail);
-                    words.resize(before, 0);
-                }
-                self.compare().map(|_| answer)
-            }
+            Action::Call(request) => self.call(request),
+            Action::Resized(area, len, request) => self.resized(*area, *len, request),
             Action::Cut => {
                 self.left.cut();
                 self.right.cut();
@@ -115,38 +102,40 @@ impl Pair {
         }
     }
 
+    /// The call, made while an area of both sides has so many words.
+    fn resized(&mut self, area: Area, len: usize, request: &Request) -> Result<u64, String> {
+        let [left, right] = [&mut self.left, &mut self.right].map(|side| {
+            let words = side.area_mut(area);
+            let tail = words.get(len..).unwrap_or(&[]).to_vec();
+            let before = words.len();
+            words.resize(len, 0);
+            (before, tail)
+        });
+        let answer = self.call(request)?;
+        for (side, (before, tail)) in [(&mut self.left, left), (&mut self.right, right)] {
+            let words = side.area_mut(area);
+            words.extend(tail);
+            words.resize(before, 0);
+        }
+        self.compare().map(|_| answer)
+    }
+
     pub fn load(&mut self, areas: &Areas) {
         for side in [&mut self.left, &mut self.right] {
             AREAS.iter().for_each(|&area| side.area_mut(area).clone_from(areas.of(area)));
         }
     }
 
-    fn call(&mut self, call: &Call) -> Result<u64, String> {
-        let image = match call {
-            Call::Flush(_, page, Image::Received)
-                if self.left.area(Area::Received).len() > PAGE_WORDS * *page as usize + 128 =>
-            {
-                self.left.area(Area::Received)[page_range(*page as usize)].to_vec()
-            }
-            Call::Flush(_, page, image) => image.words(&self.areas(), *page),
-            _ => Vec::new(),
-        };
-        let words = if let Call::Read(_, _, n) = call { *n } else { 0 };
-        let mut buffers = [0xb0f0u32, 0xb0f0].map(|w| (0..words as u32).map(|i| w << 16 | i).collect::<Vec<_>>());
+    fn call(&mut self, request: &Request) -> Result<u64, String> {
+        let image = request.image(self.left.area(Area::Received), self.left.area(Area::Copies));
+        let buffer: Vec<u32> = (0..request.buffer() as u32).map(|i| 0xb0f0 << 16 | i).collect();
+        let mut buffers = [buffer.clone(), buffer];
         let [left_buffer, right_buffer] = &mut buffers;
-
-        let right = catch_unwind(AssertUnwindSafe(|| self.right.perform(call, &image, right_buffer)));
+        let right = catch_unwind(AssertUnwindSafe(|| {
+            self.right.perform(request.call, Lent { buffer: right_buffer, image: &image })
+        }));
         let Ok(right) = right else { return Err("the right side panics".to_string()) };
-        let left = self.left.perform(call, &image, left_buffer);
-        let (Some(left), Some(right)) = (left, right) else {
-            // a call that one side does not have yet: it takes what the other made of it
-            let (from, to, answer) = match left {
-                None => (&self.right, &mut self.left, right),
-                Some(_) => (&self.left, &mut self.right, left),
-            };
-            AREAS.iter().for_each(|&area| to.area_mut(area).clone_from(from.area(area)));
-            return Ok(answer.unwrap_or(0));
-        };
+        let left = self.left.perform(request.call, Lent { buffer: left_buffer, image: &image });
         if left != right {
             return Err(format!("answers {} and {}", show(left), show(right)));
         }
@@ -233,7 +222,7 @@ pub fn distil(list: &List, left: Kind, right: Kind) -> Option<List> {
         let (now, then) = (state.of(area), formatted.of(area));
         pokes.extend((0..now.len()).filter(|&i| now[i] != then[i]).map(|i| Action::Poke(area, i, now[i])));
     }
-    let mut actions = vec![Action::Call(Call::Format)];
+    let mut actions = vec![Action::from(Call::Format)];
     actions.extend(pokes);
     actions.push(last.clone());
     let whole = List { pages: list.pages, records: list.records, actions };

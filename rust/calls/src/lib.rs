@@ -1,0 +1,23 @@
+//! Document 01's calls as values, and how the proved library and the model make them.
+//!
+//! A new call is one line of the table in table.rs, beside the methods that the two sides have for it.
+
+mod sides;
+mod table;
+
+pub use sides::Side;
+pub use table::{Call, NAMES};
+
+/// What a call may be lent beside the areas: read takes the buffer, flush the image.
+pub struct Lent<'a> {
+    pub buffer: &'a mut [u32],
+    pub image: &'a [u32],
+}
+
+/// A call as the bench program writes it.
+impl std::fmt::Display for Call {
+    fn fmt(&self, out: &mut std::fmt::Formatter) -> std::fmt::Result {
+        write!(out, "{}", self.name())?;
+        self.numbers().iter().try_for_each(|number| write!(out, ",{number}"))
+    }
+}

@@ -1,0 +1,70 @@
+//! The table of calls: everything that is said of a call by its name.
+
+use kophdaen::Store;
+use model::{coded, Model};
+
+use crate::Lent;
+
+/// A line has the variant with its numbers, the name that the bench program gives the call, and the method
+/// that both sides have for it, with what it is lent before the numbers.
+macro_rules! calls {
+    ($( $call:ident $(($($number:ident),+))?, $name:literal, $method:ident $([$lent:ident])?; )*) => {
+        #[derive(Clone, Copy, Debug, PartialEq, Eq)]
+        pub enum Call {
+            $( $call $(($(calls!(@u32 $number)),+))?, )*
+        }
+
+        /// Every name, in the order of the calls.
+        pub const NAMES: &[&str] = &[$( $name ),*];
+
+        impl Call {
+            pub fn name(self) -> &'static str {
+                match self {
+                    $( Call::$call { .. } => $name, )*
+                }
+            }
+
+            pub fn numbers(self) -> Vec<u32> {
+                match self {
+                    $( Call::$call $(($($number),+))? => vec![$($($number),+)?], )*
+                }
+            }
+
+            /// Makes the call on the library; the answer as the C functions code it.
+            pub fn on_library(self, store: &mut Store, lent: Lent) -> u64 {
+                let answer = match self {
+                    $( Call::$call $(($($number),+))? => store.$method($(lent.$lent,)? $($($number),+)?), )*
+                };
+                answer.code()
+            }
+
+            /// .. and on the model.
+            pub fn on_model(self, model: &mut Model, lent: Lent) -> u64 {
+                coded(match self {
+                    $( Call::$call $(($($number),+))? => model.$method($(lent.$lent,)? $($($number),+)?), )*
+                })
+            }
+        }
+    };
+    (@u32 $number:ident) => { u32 };
+}
+
+calls! {
+    Format, "format", format;
+    Begin(t), "begin", begin;
+    Commit(t), "commit", commit;
+    Abort(t), "abort", abort;
+    LockRead(t, page), "lockr", lock_read;
+    LockWrite(t, page), "lockw", lock_write;
+    Read(t, object), "read", read[buffer];
+    Create(t, object), "create", create;
+    SetWord(t, object, field, word), "set", set_word;
+    Flush(t, page), "flush", flush[image];
+    Force, "force", force;
+    StorePage(page), "store", store_page;
+    EmptyLog, "empty", empty_log;
+    StartPass, "pass", start_pass;
+    PassStep, "step", pass_step;
+    Reopen, "reopen", reopen;
+    ReopenStep, "restep", reopen_step;
+}
