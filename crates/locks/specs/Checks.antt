@@ -3,19 +3,19 @@
 use Prim.Native.Nat.{ℕ, _<_}
 use mathlib.Core.Path.{_≡_, refl, sym, ap, _∙_}
 use mathlib.Core.Bool.{Bool, true, false, not, _&&_, _||_}
-use mathlib.Core.List.{List}
+use mathlib.Core.List.{List, [], _∷_}
 use lib.Dec.{ltb}
 use borrow.Author.Tests.{ltb-true}
 use Rattle.words.specs.Tests.{if, if-t, if-f, and-split, and-true, and-false}
 use Rattle.areas.specs.declared.Refusal.the-variants.{OutOfRange, WrongState, Held}
 use Rattle.areas.specs.declared.Check.{Check}
-use Rattle.areas.specs.declared.Check.the-variants.{Pass, Refuse}
-use Rattle.areas.specs.declared.Answer.the-variants.{Done}
-use Rattle.areas.specs.Answers.{need, need-holds, need-fails, need-passed}
-use Rattle.areas.specs.Areas.{Areas, out}
+use Rattle.areas.specs.declared.Check.the-variants.{Accept, Refuse}
+use Rattle.areas.specs.Answers.{Test, need, verdict, passed, all-passed, need-holds, need-fails}
+use Rattle.records.specs.Records.{txnCount}
+use Rattle.areas.specs.Areas.{Areas}
 use Rattle.areas.specs.Layout.{readersAt, writersAt}
 use Rattle.areas.specs.Tables.{gain, lose, isTxn, isActive, canWrite}
-use Rattle.calls.specs.Locks.{noOther, lockReadCheck, readLocked, lockWriteCheck, writeLocked}
+use Rattle.calls.specs.Locks.{noOther, lockReadTests, readLocked, lockWriteTests, writeLocked}
 use Rattle.locks.specs.declared.Way.{Way}
 use Rattle.locks.specs.declared.Way.the-variants.{Clear, Barred}
 
@@ -27,13 +27,21 @@ unfoldable pub wayTo : List ℕ → ℕ → ℕ → ℕ → Bool → Way
 wayTo w n t p writing = if (isFree w n t p writing) Clear Barred
 
 abbrev pub answerTo : Way → Check
-answerTo Clear = Pass
+answerTo Clear = Accept
 answerTo Barred = Refuse Held
 
-unfoldable pub lockCheck : List ℕ → ℕ → ℕ → ℕ → Bool → Check
-lockCheck w n t p writing = need (isTxn t && ltb p n) OutOfRange (need (isActive w t) WrongState (answerTo (wayTo w n t p writing)))
+-- the tests of both locks
+unfoldable pub lockTests : List ℕ → ℕ → ℕ → ℕ → Bool → List Test
+lockTests w n t p writing =
+    need 3 OutOfRange (isTxn t && ltb p n)
+    ∷ need 4 WrongState (isActive w t)
+    ∷ need 6 Held (isFree w n t p writing)
+    ∷ []
 
 -- as the code finds it
+pub no-other-at : (w : List ℕ) (i j t : ℕ) {a : Bool} → a ≡ noOther w i t → i ≡ j → a ≡ noOther w j t
+no-other-at w i j t e place = e ∙ rw place
+
 module _ (w : List ℕ) (n t p : ℕ) (writing : Bool) {a b : Bool} (ha : a ≡ noOther w (writersAt n p) t) (hb : b ≡ noOther w (readersAt n p) t) where
   pub way-clear : a && (not writing || b) ≡ true → Clear ≡ wayTo w n t p writing
   unfolding wayTo
@@ -43,47 +51,42 @@ module _ (w : List ℕ) (n t p : ℕ) (writing : Bool) {a b : Bool} (ha : a ≡ 
   unfolding wayTo
   way-barred h = rw (← ha, ← hb, h)
 
-module _ (w : List ℕ) (n t p : ℕ) (writing : Bool) where
-  pub lock-outside : isTxn t && ltb p n ≡ false → Refuse OutOfRange ≡ lockCheck w n t p writing
-  unfolding lockCheck
-  lock-outside h = need-fails _ _ _ h
+answered : (b : Bool) → answerTo (if b Clear Barred) ≡ verdict (need 6 Held b ∷ [])
+answered true = all-passed ∙ need-holds _ _ _ _ refl
+answered false = need-fails _ _ _ _ refl
 
-  pub lock-inside : isTxn t && ltb p n ≡ true → (t < 16) × (p < n)
+module _ (w : List ℕ) (n t p : ℕ) (writing : Bool) where
+  pub lock-outside : isTxn t && ltb p n ≡ false → Refuse OutOfRange ≡ verdict (lockTests w n t p writing)
+  unfolding lockTests
+  lock-outside h = need-fails _ _ _ _ h
+
+  pub lock-inside : isTxn t && ltb p n ≡ true → (t < txnCount) × (p < n)
   lock-inside h = let q = and-split (isTxn t) (ltb p n) h in (ltb-true _ _ (q .0), ltb-true _ _ (q .1))
 
-  pub lock-inactive : isTxn t && ltb p n ≡ true → isActive w t ≡ false → Refuse WrongState ≡ lockCheck w n t p writing
-  unfolding lockCheck
-  lock-inactive h a = need-fails _ _ _ a ∙ need-holds _ _ _ h
+  pub lock-inactive : isTxn t && ltb p n ≡ true → isActive w t ≡ false → Refuse WrongState ≡ verdict (lockTests w n t p writing)
+  unfolding lockTests
+  lock-inactive h a = need-fails _ _ _ _ a ∙ need-holds _ _ _ _ h
 
-  pub lock-answer : isTxn t && ltb p n ≡ true → isActive w t ≡ true → {y : Way} → y ≡ wayTo w n t p writing → answerTo y ≡ lockCheck w n t p writing
-  unfolding lockCheck
-  lock-answer h a e = ap answerTo e ∙ need-holds _ _ _ a ∙ need-holds _ _ _ h
+  pub lock-answer : isTxn t && ltb p n ≡ true → isActive w t ≡ true → {y : Way} → y ≡ wayTo w n t p writing → answerTo y ≡ verdict (lockTests w n t p writing)
+  unfolding lockTests wayTo
+  lock-answer h a e = ap answerTo e ∙ answered (isFree w n t p writing) ∙ need-holds _ _ _ _ a ∙ need-holds _ _ _ _ h
 
-  pub lock-passed : lockCheck w n t p writing ≡ Pass → (t < 16) × (p < n)
-  unfolding lockCheck
-  lock-passed h = lock-inside (need-passed _ _ _ h .0)
+  pub lock-passed : verdict (lockTests w n t p writing) ≡ Accept → (t < txnCount) × (p < n)
+  unfolding lockTests
+  lock-passed h = lock-inside (passed _ 0 h)
 
--- the check of each call
-answered : (b : Bool) → answerTo (if b Clear Barred) ≡ need b Held Pass
-answered true = refl
-answered false = refl
-
+-- the tests of each call
 and-comm : (a b : Bool) → a && b ≡ b && a
 and-comm true b = sym (and-true b)
 and-comm false b = sym (and-false b)
 
-pub lock-read-as : (s : Areas) (n t p : ℕ) {k : Check} → k ≡ lockCheck (s .work) n t p false → k ≡ lockReadCheck s n t p
-unfolding lockCheck wayTo lockReadCheck
-lock-read-as s n t p e =
-    e ∙ ap (λ (k : Check). need (isTxn t && ltb p n) OutOfRange (need (isActive (s .work) t) WrongState k))
-    (answered (noOther (s .work) (writersAt n p) t && true) ∙ ap (λ (b : Bool). need b Held Pass) (and-true (noOther (s .work) (writersAt n p) t)))
+pub lock-read-as : (s : Areas) (n t p : ℕ) → lockTests (s .work) n t p false ≡ lockReadTests s n t p
+unfolding lockTests lockReadTests
+lock-read-as s n t p = rw (and-true (noOther (s .work) (writersAt n p) t))
 
-pub lock-write-as : (s : Areas) (n t p : ℕ) {k : Check} → k ≡ lockCheck (s .work) n t p true → k ≡ lockWriteCheck s n t p
-unfolding lockCheck wayTo lockWriteCheck
-lock-write-as s n t p e =
-    e ∙ ap (λ (k : Check). need (isTxn t && ltb p n) OutOfRange (need (isActive (s .work) t) WrongState k))
-    (answered (noOther (s .work) (writersAt n p) t && noOther (s .work) (readersAt n p) t)
-    ∙ ap (λ (b : Bool). need b Held Pass) (and-comm (noOther (s .work) (writersAt n p) t) (noOther (s .work) (readersAt n p) t)))
+pub lock-write-as : (s : Areas) (n t p : ℕ) → lockTests (s .work) n t p true ≡ lockWriteTests s n t p
+unfolding lockTests lockWriteTests
+lock-write-as s n t p = rw (and-comm (noOther (s .work) (writersAt n p) t) (noOther (s .work) (readersAt n p) t))
 
 -- the tables with their lock, as the code leaves them
 module _ (w : List ℕ) (n t p : ℕ) where
@@ -91,14 +94,10 @@ module _ (w : List ℕ) (n t p : ℕ) where
   unfolding readLocked
   read-stays h = sym (if-t _ _ _ h)
 
-  pub read-gains : {v : List ℕ} → canWrite w n t p ≡ false → v ≡ gain w (readersAt n p) t → v ≡ readLocked w n t p
+  pub read-gains : {v : List ℕ} {i : ℕ} → i ≡ readersAt n p → canWrite w n t p ≡ false → v ≡ gain w i t → v ≡ readLocked w n t p
   unfolding readLocked
-  read-gains h e = e ∙ sym (if-f _ _ _ h)
+  read-gains place h e = e ∙ rw place (sym (if-f _ _ _ h))
 
-  pub write-gains : {v u : List ℕ} → v ≡ lose w (readersAt n p) t → u ≡ gain v (writersAt n p) t → u ≡ writeLocked w n t p
+  pub write-gains : {v u : List ℕ} {i j : ℕ} → i ≡ readersAt n p → j ≡ writersAt n p → v ≡ lose w i t → u ≡ gain v j t → u ≡ writeLocked w n t p
   unfolding writeLocked
-  write-gains {v} {u} d e = e ∙ ap (λ (x : List ℕ). gain x (writersAt n p) t) d
-
--- the outcome of a call that changes the working tables only
-pub work-done : (v : ℕ) (s c r g k : List ℕ) {w u : List ℕ} → w ≡ u → out (Done v) s c r g k w ≡ out (Done v) s c r g k u
-work-done v s c r g k e = rw e
+  write-gains {v} {u} {i} {j} place place′ d e = e ∙ rw (d, place, place′)

@@ -30,19 +30,24 @@ over-join f w a m (suc k) =
 pub object-facts : (n o : ℕ) → isObject n o ≡ true → (1 ≤ o) × (o ≤ objectCount n)
 object-facts n o h = let p = and-split (leb 1 o) (leb o (objectCount n)) h in (leb-true _ _ (p .0), leb-true _ _ (p .1))
 
--- an object that turns grey, and one that does not
+-- what a pass may mark is an object
+pub mark-facts : (w : List ℕ) (n o : ℕ) → mayMark w n o ≡ true → (1 ≤ o) × (o ≤ objectCount n)
+mark-facts w n o h = object-facts n o h
+
+-- an object that turns grey, and one that does not, its colour standing at i
 module _ (w : List ℕ) (n o : ℕ) where
-  pub greyed-outside : isObject n o ≡ false → w ≡ greyed w n o
+  pub greyed-outside : mayMark w n o ≡ false → w ≡ greyed w n o
   unfolding greyed
   greyed-outside h = sym (if-f _ _ _ (and-f _ _ h))
 
-  pub greyed-white : isObject n o ≡ true → at w (colourAt n o) ≡ 0 → coloured w n o 1 ≡ greyed w n o
-  unfolding greyed
-  greyed-white h e = sym (if-t _ _ _ (and-t _ _ h ∙ eq-eqb _ _ e))
+  module _ {i : ℕ} (place : i ≡ colourAt n o) (h : mayMark w n o ≡ true) where
+    pub greyed-white : at w i ≡ 0 → set w i 1 ≡ greyed w n o
+    unfolding greyed
+    greyed-white e = let z : at w (colourAt n o) ≡ 0 = rw (← place) e in rw place (sym (if-t _ _ _ (and-t _ _ h ∙ eq-eqb _ _ z)))
 
-  pub greyed-marked : isObject n o ≡ true → (at w (colourAt n o) ≡ 0 → ⊥) → w ≡ greyed w n o
-  unfolding greyed
-  greyed-marked h e = sym (if-f _ _ _ (and-t _ _ h ∙ ne-eqb _ _ e))
+    pub greyed-marked : (at w i ≡ 0 → ⊥) → w ≡ greyed w n o
+    unfolding greyed
+    greyed-marked e = sym (if-f _ _ _ (and-t _ _ h ∙ ne-eqb _ _ (λ z. e (rw place z))))
 
   pub length-greyed : length (greyed w n o) ≡ length w
   unfolding greyed

@@ -13,4 +13,5 @@ pub use tables::is_object;
 pub use tables::knows;
 pub use tables::leave_all;
 pub use tables::lose;
+pub use tables::may_mark;
 pub use tables::turn_grey;

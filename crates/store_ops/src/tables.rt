@@ -3,7 +3,7 @@ ghost use Prim.Native.Nat.{_+_, _*_, _<_, _≤_};
 ghost use lib.ListN.{length};
 ghost use Rattle.pages.specs.Geometry.{maxPages, isObject};
 ghost use Rattle.areas.specs.Layout.{HasTables, phaseAt};
-ghost use Rattle.areas.specs.Tables.{has, gain, lose, canRead, canWrite, knows, greyed};
+ghost use Rattle.areas.specs.Tables.{has, gain, lose, canRead, canWrite, knows, mayMark, greyed};
 ghost use Rattle.calls.specs.Transactions.{leaves, endedEntry, endedEntries};
 use areas::layout;
 use page_ops::bits;
@@ -105,12 +105,20 @@ pub fn knows(w: &[u32], n: usize, t: u32, o: u32) -> bool
     has(w, layout::known_at(n, o as usize), t)
 }
 
-// A white object of the pass turns grey.
+// Whether the pass that runs may mark o: all objects of the store.
+pub fn may_mark(w: &[u32], n: usize, o: u32) -> bool
+    requires { ⌜ n ≤ maxPages ⌝ }
+    ensures { λ r. ⌜ r ≡ mayMark (now (w .entry)) n o ⌝ }
+{
+    is_object(n, o)
+}
+
+// A white object that the pass may mark turns grey.
 pub fn turn_grey(w: &mut [u32], n: usize, o: u32)
     requires { ⌜ HasTables (now w) n ⌝ }
     ensures { λ _. ⌜ now (w .exit) ≡ greyed (now (w .entry)) n o ⌝ }
 {
-    if !is_object(n, o) {
+    if !may_mark(w, n, o) {
         return;
     }
     let i = layout::colour_at(n, o as usize);
