@@ -7,14 +7,8 @@ use borrow.Author.Needs.{needs}
 use Rattle.page_ops.proofs.bits.mask_of.Statement.{statement}
 use Rattle.page_ops.proofs.bits.mask_of.Tie as tie
 
-cast-result : tie.Need-cast-result
-cast-result c = search needs
-
-shl-result : tie.Need-shl-result
-shl-result c = search needs
-
 returns : tie.Need-returns
 returns c = shl-exact {a = 1} 1 (c .args .t) 32 (omega arith) (omega arith) ∙ one-mul _
 
 pub mask-of-spec : {M : Type 1} → statement M
-mask-of-spec = tie.close (tie.spec cast-result shl-result returns)
+mask-of-spec = tie.close (tie.spec (λ c. search needs) (λ c. search needs) returns)

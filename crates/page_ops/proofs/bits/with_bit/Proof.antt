@@ -6,11 +6,8 @@ use borrow.Author.Needs.{needs}
 use Rattle.page_ops.proofs.bits.with_bit.Statement.{statement}
 use Rattle.page_ops.proofs.bits.with_bit.Tie as tie
 
-mask-of-requires : tie.Need-mask-of-requires
-mask-of-requires c κs = search needs
-
 returns : tie.Need-returns
 returns c = ap (bitOr (c .before .args .m)) (c .mask-of .ensures) ∙ or-bit _ _
 
 pub with-bit-spec : {M : Type 1} → statement M
-with-bit-spec = tie.close (tie.spec mask-of-requires returns)
+with-bit-spec = tie.close (tie.spec (λ c κs. search needs) returns)

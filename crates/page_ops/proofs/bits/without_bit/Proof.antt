@@ -7,9 +7,6 @@ use borrow.Author.Needs.{needs}
 use Rattle.page_ops.proofs.bits.without_bit.Statement.{statement}
 use Rattle.page_ops.proofs.bits.without_bit.Tie as tie
 
-mask-of-requires : tie.Need-mask-of-requires
-mask-of-requires c κs = search needs
-
 sub-result : tie.Need-sub-result
 sub-result c = or-le-r (c .before .args .m) (c .mask-of .result)
 
@@ -17,4 +14,4 @@ returns : tie.Need-returns
 returns c = ap (λ (x : ℕ). bitOr (c .before .args .m) x - x) (c .mask-of .ensures) ∙ or-without _ _
 
 pub without-bit-spec : {M : Type 1} → statement M
-without-bit-spec = tie.close (tie.spec mask-of-requires sub-result returns)
+without-bit-spec = tie.close (tie.spec (λ c κs. search needs) sub-result returns)

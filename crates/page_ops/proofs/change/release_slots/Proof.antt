@@ -10,36 +10,6 @@ use borrow.Author.Needs.{needs}
 use Rattle.page_ops.proofs.change.release_slots.Statement.{statement}
 use Rattle.page_ops.proofs.change.release_slots.Tie as tie
 
-rows-of-requires : tie.Need-rows-of-requires
-rows-of-requires c κs = search needs
-
-freed-rows-requires : tie.Need-freed-rows-requires
-freed-rows-requires c κs = search needs
-
-mul-clear-bits : tie.Need-mul-clear-bits
-mul-clear-bits c = search needs
-
-mul-clear-bits-2 : tie.Need-mul-clear-bits-2
-mul-clear-bits-2 c = search needs
-
-slice-read-clear-bits : tie.Need-slice-read-clear-bits
-slice-read-clear-bits c = search needs
-
-clear-bits-requires : tie.Need-clear-bits-requires
-clear-bits-requires c κs = search needs
-
-mul-a : tie.Need-mul-a
-mul-a c = search needs
-
-mul-a-2 : tie.Need-mul-a-2
-mul-a-2 c = search needs
-
-slice-write-a : tie.Need-slice-write-a
-slice-write-a c = search needs
-
-put-rows-requires : tie.Need-put-rows-requires
-put-rows-requires c κs = search needs
-
 same-length : tie.Need-same-length
 same-length c = c .before .before .put-rows .kept .0 ∙ simp length-set
 
@@ -50,15 +20,15 @@ pub release-slots-spec : {M : Type 1} → statement M
 release-slots-spec =
     tie.close
     (tie.spec
-    rows-of-requires
-    freed-rows-requires
-    mul-clear-bits
-    mul-clear-bits-2
-    slice-read-clear-bits
-    clear-bits-requires
-    mul-a
-    mul-a-2
-    slice-write-a
-    put-rows-requires
+    (λ c κs. search needs)
+    (λ c κs. search needs)
+    (λ c. search needs)
+    (λ c. search needs)
+    (λ c. search needs)
+    (λ c κs. search needs)
+    (λ c. search needs)
+    (λ c. search needs)
+    (λ c. search needs)
+    (λ c κs. search needs)
     same-length
     returns)

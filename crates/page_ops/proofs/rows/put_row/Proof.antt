@@ -19,32 +19,8 @@ abbrev μ-loop : tie.MeasureT-loop
 loop-holds : tie.Need-loop-holds Inv-loop μ-loop
 loop-holds c = (omega arith, refl, paste-zero (c .args .a .now) (c .args .b) (c .args .t3))
 
-mul-a : tie.Need-mul-a Inv-loop μ-loop
-mul-a c = search needs
-
-array-read-a : tie.Need-array-read-a Inv-loop μ-loop
-array-read-a c = search needs
-
-add-a : tie.Need-add-a Inv-loop μ-loop
-add-a c = search needs
-
-mul-a-2 : tie.Need-mul-a-2 Inv-loop μ-loop
-mul-a-2 c = search needs
-
-slice-write-a : tie.Need-slice-write-a Inv-loop μ-loop
-slice-write-a c = search needs
-
-add-f : tie.Need-add-f Inv-loop μ-loop
-add-f c = search needs
-
-loop-less : tie.Need-loop-less Inv-loop μ-loop
-loop-less c = search needs
-
 loop-again : tie.Need-loop-again Inv-loop μ-loop
 loop-again c = let k : length (c .before .before .args .t3) ≡ 8 = c .before .before .good .1 .1 .0 .1 .0 .1 in let a = c .before .before .args in let f = c .before .loop .f in (omega arith, simp length-set (c .before .loop .inv .1), ap (λ (l : List ℕ). set l (a .b + f) (getD (a .t3) f 0)) (c .before .loop .inv .2) ∙ paste-next (a .a .now) (a .b) (a .t3) f (omega arith) (omega arith))
-
-same-length : tie.Need-same-length Inv-loop μ-loop
-same-length c = search needs
 
 returns : tie.Need-returns Inv-loop μ-loop
 returns c = let e : c .before .loop .f ≡ 8 = omega arith in rw e at (c .before .loop .inv .2)
@@ -56,13 +32,13 @@ put-row-spec =
     Inv-loop
     μ-loop
     loop-holds
-    mul-a
-    array-read-a
-    add-a
-    mul-a-2
-    slice-write-a
-    add-f
-    loop-less
+    (λ c. search needs)
+    (λ c. search needs)
+    (λ c. search needs)
+    (λ c. search needs)
+    (λ c. search needs)
+    (λ c. search needs)
+    (λ c. search needs)
     loop-again
-    same-length
+    (λ c. search needs)
     returns)

@@ -19,33 +19,6 @@ abbrev μ-loop : tie.MeasureT-loop
 loop-holds : tie.Need-loop-holds Inv-loop μ-loop
 loop-holds c = (omega arith, tab-none _ _)
 
-mul-words-from : tie.Need-mul-words-from Inv-loop μ-loop
-mul-words-from c = search needs
-
-add-words-from : tie.Need-add-words-from Inv-loop μ-loop
-add-words-from c = search needs
-
-mul-words-from-2 : tie.Need-mul-words-from-2 Inv-loop μ-loop
-mul-words-from-2 c = search needs
-
-add-words-from-2 : tie.Need-add-words-from-2 Inv-loop μ-loop
-add-words-from-2 c = search needs
-
-words-from-requires : tie.Need-words-from-requires Inv-loop μ-loop
-words-from-requires c κs = search needs
-
-mul-t : tie.Need-mul-t Inv-loop μ-loop
-mul-t c = search needs
-
-array-set-from-t : tie.Need-array-set-from-t Inv-loop μ-loop
-array-set-from-t c = search needs
-
-add-s : tie.Need-add-s Inv-loop μ-loop
-add-s c = search needs
-
-loop-less : tie.Need-loop-less Inv-loop μ-loop
-loop-less c = search needs
-
 loop-again : tie.Need-loop-again Inv-loop μ-loop
 loop-again c = let a = c .before .before .before .before .args in let s = c .before .before .loop .s in (omega arith, tab-next (rowOf (a .a .now) (a .p)) s (replicate 16 zeroRow) [] _ _ (c .before .before .loop .inv .1) (c .words-from .ensures ∙ row-words (a .a .now) (a .p) s) (omega arith))
 
@@ -60,14 +33,14 @@ rows-of-spec =
     Inv-loop
     μ-loop
     loop-holds
-    mul-words-from
-    add-words-from
-    mul-words-from-2
-    add-words-from-2
-    words-from-requires
-    mul-t
-    array-set-from-t
-    add-s
-    loop-less
+    (λ c. search needs)
+    (λ c. search needs)
+    (λ c. search needs)
+    (λ c. search needs)
+    (λ c κs. search needs)
+    (λ c. search needs)
+    (λ c. search needs)
+    (λ c. search needs)
+    (λ c. search needs)
     loop-again
     returns)

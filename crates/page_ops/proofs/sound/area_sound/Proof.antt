@@ -19,27 +19,12 @@ abbrev μ-loop : tie.MeasureT-loop
 loop-holds : tie.Need-loop-holds Inv-loop μ-loop
 loop-holds c = (omega arith, all-none _)
 
-page-sound-requires : tie.Need-page-sound-requires Inv-loop μ-loop
-page-sound-requires c κs = search needs
-
 returns : tie.Need-returns Inv-loop μ-loop
 unfolding areaSound
 returns c = sym (and-f _ _ (sym (all-out _ _ _ (c .before .before .loop-test .taken) (sym (c .before .page-sound .ensures) ∙ not-true _ (c .if1 .taken)))))
 
-add-p : tie.Need-add-p Inv-loop μ-loop
-add-p c = search needs
-
-loop-less : tie.Need-loop-less Inv-loop μ-loop
-loop-less c = search needs
-
 loop-again : tie.Need-loop-again Inv-loop μ-loop
 loop-again c = (omega arith, all-more _ _ (c .before .before .before .loop .inv .1) (sym (c .before .page-sound .ensures) ∙ not-false _ (c .if1 .left)))
-
-shared-slice-read-has-bit : tie.Need-shared-slice-read-has-bit Inv-loop μ-loop
-shared-slice-read-has-bit c = search needs
-
-has-bit-requires : tie.Need-has-bit-requires Inv-loop μ-loop
-has-bit-requires c κs = search needs
 
 returns-2 : tie.Need-returns-2 Inv-loop μ-loop
 unfolding areaSound
@@ -52,11 +37,11 @@ area-sound-spec =
     Inv-loop
     μ-loop
     loop-holds
-    page-sound-requires
+    (λ c κs. search needs)
     returns
-    add-p
-    loop-less
+    (λ c. search needs)
+    (λ c. search needs)
     loop-again
-    shared-slice-read-has-bit
-    has-bit-requires
+    (λ c. search needs)
+    (λ c κs. search needs)
     returns-2)

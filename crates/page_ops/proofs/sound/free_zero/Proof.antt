@@ -6,11 +6,8 @@ use borrow.Author.Needs.{needs}
 use Rattle.page_ops.proofs.sound.free_zero.Statement.{statement}
 use Rattle.page_ops.proofs.sound.free_zero.Tie as tie
 
-slot-faults-requires : tie.Need-slot-faults-requires
-slot-faults-requires c κs = search needs
-
 returns : tie.Need-returns
 returns c = c .slot-faults .ensures ∙ slots-free _ _ (λ i. omega (arith, c .before .shared-slice-known .given i))
 
 pub free-zero-spec : {M : Type 1} → statement M
-free-zero-spec = tie.close (tie.spec slot-faults-requires returns)
+free-zero-spec = tie.close (tie.spec (λ c κs. search needs) returns)

@@ -19,17 +19,8 @@ abbrev μ-loop : tie.MeasureT-loop
 loop-holds : tie.Need-loop-holds Inv-loop μ-loop
 loop-holds c = (omega arith, all-none _)
 
-free-zero-requires : tie.Need-free-zero-requires Inv-loop μ-loop
-free-zero-requires c κs = search needs
-
 returns : tie.Need-returns Inv-loop μ-loop
 returns c = all-out _ _ _ (c .before .before .loop-test .taken) (sym (c .before .free-zero .ensures) ∙ not-true _ (c .if1 .taken))
-
-add-p : tie.Need-add-p Inv-loop μ-loop
-add-p c = search needs
-
-loop-less : tie.Need-loop-less Inv-loop μ-loop
-loop-less c = search needs
 
 loop-again : tie.Need-loop-again Inv-loop μ-loop
 loop-again c = (omega arith, all-more _ _ (c .before .before .before .loop .inv .1) (sym (c .before .free-zero .ensures) ∙ not-false _ (c .if1 .left)))
@@ -44,9 +35,9 @@ pages-free-zero-spec =
     Inv-loop
     μ-loop
     loop-holds
-    free-zero-requires
+    (λ c κs. search needs)
     returns
-    add-p
-    loop-less
+    (λ c. search needs)
+    (λ c. search needs)
     loop-again
     returns-2)
