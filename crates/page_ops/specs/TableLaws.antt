@@ -1,5 +1,5 @@
 -- A page's table of rows: read, changed and written back. Assumes nothing.
-use Prim.Native.Nat.{ℕ, zero, suc, _+_, _*_, _<_}
+use Prim.Native.Nat.{ℕ, zero, suc, _+_, _<_}
 use mathlib.Core.Path.{_≡_, refl, sym, ap, _∙_}
 use mathlib.Core.List.{List, [], _∷_, _++_, append-nil}
 use lib.ListN.{length, length-append, getD, set, drop, replicate, drop-of-length-le}
@@ -9,11 +9,10 @@ use native.Mathlib.Numerals.{add-one}
 use native.Mathlib.Omega.{arith}
 use Rattle.words.specs.Tests.{if}
 use Rattle.words.specs.Bits.{bit}
-use Rattle.words.specs.Spans.{fill}
-use Rattle.pages.specs.Objects.{cleared}
+use Rattle.pages.specs.Geometry.{slotAt, slotCount, slotWords}
 use Rattle.pages.specs.Table.{tabulate, rowOf, withRows}
 
--- the eight words from b
+-- 'sixteen rows of eight words': one row, the words from b
 abbrev pub wordsFrom : List ℕ → ℕ → List ℕ
 wordsFrom a b =
     getD a b 0
@@ -26,15 +25,16 @@ wordsFrom a b =
     ∷ getD a (b + 7) 0
     ∷ []
 
+-- 'Free slots hold zeros': the row of one
 abbrev pub zeroRow : List ℕ
-zeroRow = replicate 8 0
+zeroRow = replicate slotWords 0
 
--- a table with the rows of the map m zero
+-- 'map of freed slots, which become zeros': row s of a table, and the table, where the slots of the map m are freed
 abbrev pub freedRow : List (List ℕ) → ℕ → ℕ → List ℕ
 freedRow t m s = if (bit m s) zeroRow (getD t s [])
 
 unfoldable pub freedRows : List (List ℕ) → ℕ → List (List ℕ)
-freedRows t m = tabulate (freedRow t m) 16
+freedRows t m = tabulate (freedRow t m) slotCount
 
 -- a table filled one row after the other
 module _ {A : Type 0} where
@@ -60,15 +60,12 @@ module _ {A : Type 0} where
   pub tab-end : (f : ℕ → A) (n i : ℕ) (l x : List A) → x ≡ tabulate f i ++ drop i l → i ≡ n → length l ≡ n → x ≡ tabulate f n
   tab-end f n i l x h e q = h ∙ rw (e, drop-of-length-le l {i = n} (omega arith)) (append-nil (tabulate f n))
 
-pub row-words : (a : List ℕ) (p s : ℕ) → wordsFrom a (129 * p + 1 + 8 * s) ≡ rowOf a p s
+-- a row read from its slot, and one more row written
+pub row-words : (a : List ℕ) (p s : ℕ) → wordsFrom a (slotAt p s 0) ≡ rowOf a p s
 row-words a p s = simp add-zero
 
-pub rows-next : (a : List ℕ) (p : ℕ) (t : List (List ℕ)) (s : ℕ) (x : List ℕ) → x ≡ withRows a p t s
-    → paste x (129 * p + 1 + 8 * s) (getD t s []) 8 ≡ withRows a p t (s + 1)
+pub rows-next : (a : List ℕ) (p : ℕ) (t : List (List ℕ)) (s : ℕ) (x : List ℕ) (b : ℕ) → x ≡ withRows a p t s → b ≡ slotAt p s 0
+    → paste x b (getD t s []) slotWords ≡ withRows a p t (s + 1)
 unfolding withRows
-rows-next a p t s x h = ap (λ (l : List ℕ). paste l (129 * p + 1 + 8 * s) (getD t s []) 8) h
-    ∙ ap (λ (i : ℕ). paste (withRows a p t s) i (getD t s []) 8) (sym (add-zero (129 * p + 1 + 8 * s))) ∙ ap (withRows a p t) (sym (add-one s))
-
-pub cleared-from : (a : List ℕ) (p s : ℕ) → fill (λ f. 0) a (129 * p + 1 + 8 * s) 8 ≡ cleared a p s
-unfolding cleared
-cleared-from a p s = ap (λ (i : ℕ). fill (λ f. 0) a i 8) (sym (add-zero (129 * p + 1 + 8 * s)))
+rows-next a p t s x b h e = ap (λ (l : List ℕ). paste l b (getD t s []) slotWords) h
+    ∙ ap (λ (i : ℕ). paste (withRows a p t s) i (getD t s []) slotWords) e ∙ ap (withRows a p t) (sym (add-one s))

@@ -2,6 +2,7 @@
 use Prim.Native.Nat.{ℕ, _*_}
 use mathlib.Core.Path.{ap, _∙_}
 use lib.ListN.{set, length-set}
+use Rattle.pages.specs.Geometry.{pageWords}
 use Rattle.pages.specs.Objects.{cleared, takenSlot}
 use borrow.Author.Needs.{needs}
 use Rattle.page_ops.proofs.change.take_slot.Statement.{statement}
@@ -12,7 +13,7 @@ same-length c = c .before .before .clear-slot .kept .0 ∙ simp length-set
 
 returns : tie.Need-returns
 unfolding takenSlot
-returns c = let a = c .before .before .before .before .before .before .before .args in c .before .before .clear-slot .ensures ∙ ap (λ (v : ℕ). cleared (set (a .a .now) (129 * a .p) v) (a .p) (a .s)) (c .before .before .before .before .with-bit .ensures)
+returns c = let a = c .before .before .before .before .before .before .before .args in c .before .before .clear-slot .ensures ∙ ap (λ (v : ℕ). cleared (set (a .a .now) (pageWords * a .p) v) (a .p) (a .s)) (c .before .before .before .before .with-bit .ensures)
 
 pub take-slot-spec : {M : Type 1} → statement M
 take-slot-spec =

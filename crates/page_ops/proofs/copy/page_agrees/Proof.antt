@@ -4,15 +4,16 @@ use native.Mathlib.Omega.{arith}
 use Prim.Native.Nat.{_≤_, _-_}
 use mathlib.Core.Path.{_≡_, refl}
 use Rattle.words.specs.Spans.{same}
+use Rattle.pages.specs.Geometry.{pageWords}
 use Rattle.page_ops.specs.Agreement.{agrees, same-none, same-next, same-end}
 use Rattle.page_ops.proofs.copy.page_agrees.Statement.{statement}
 use Rattle.page_ops.proofs.copy.page_agrees.Tie as tie
 
 abbrev Inv-loop : tie.InvT-loop
-Inv-loop image a p b ok₀ i₀ ok i = (i ≤ 129) × (ok ≡ same image 0 a b i)
+Inv-loop image a p b ok₀ i₀ ok i = (i ≤ pageWords) × (ok ≡ same image 0 a b i)
 
 abbrev μ-loop : tie.MeasureT-loop
-μ-loop image a p b ok₀ i₀ ok i = 129 - i
+μ-loop image a p b ok₀ i₀ ok i = pageWords - i
 
 loop-holds : tie.Need-loop-holds Inv-loop μ-loop
 loop-holds c = (omega arith, same-none _ _ _ _)

@@ -7,16 +7,17 @@ use mathlib.Core.Path.{_≡_, ap, _∙_}
 use mathlib.Core.List.{[], _++_}
 use lib.ListN.{drop, getD}
 use Rattle.words.specs.Tests.{if}
+use Rattle.pages.specs.Geometry.{slotCount}
 use Rattle.pages.specs.Table.{tabulate}
 use Rattle.page_ops.specs.TableLaws.{zeroRow, freedRow, freedRows, tab-none, tab-next, tab-end}
 use Rattle.page_ops.proofs.rows.freed_rows.Statement.{statement}
 use Rattle.page_ops.proofs.rows.freed_rows.Tie as tie
 
 abbrev Inv-loop : tie.InvT-loop
-Inv-loop m t u₀ s₀ u s = (s ≤ 16) × (u ≡ tabulate (freedRow t m) s ++ drop s t)
+Inv-loop m t u₀ s₀ u s = (s ≤ slotCount) × (u ≡ tabulate (freedRow t m) s ++ drop s t)
 
 abbrev μ-loop : tie.MeasureT-loop
-μ-loop m t u₀ s₀ u s = 16 - s
+μ-loop m t u₀ s₀ u s = slotCount - s
 
 loop-holds : tie.Need-loop-holds Inv-loop μ-loop
 loop-holds c = (omega arith, tab-none _ _)
