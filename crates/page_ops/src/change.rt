@@ -1,6 +1,6 @@
 // The objects of a page area: what is there, and their changes one object at a time.
-use crate::rows;
 use bit_ops::bits;
+use page_rows::rows;
 ghost use mathlib.Core.Path.{_≡_};
 ghost use Prim.Native.Nat.{_+_, _^_, _<_, _≤_};
 ghost use lib.ListN.{length};

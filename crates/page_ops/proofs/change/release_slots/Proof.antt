@@ -5,8 +5,8 @@ use mathlib.Core.List.{List}
 use lib.ListN.{set, length-set}
 use Rattle.pages.specs.Geometry.{pageWords, slotCount}
 use Rattle.pages.specs.Table.{withRows}
-use Rattle.page_ops.specs.TableLaws.{freedRows}
-use Rattle.page_ops.specs.RoundTrip.{released-table}
+use Rattle.page_rows.specs.TableLaws.{freedRows}
+use Rattle.page_rows.specs.RoundTrip.{released-table}
 use borrow.Author.Needs.{needs}
 use Rattle.page_ops.proofs.change.release_slots.Statement.{statement}
 use Rattle.page_ops.proofs.change.release_slots.Tie as tie

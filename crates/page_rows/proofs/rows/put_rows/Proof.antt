@@ -6,9 +6,9 @@ use mathlib.Core.Path.{_≡_, refl, _∙_}
 use lib.ListN.{length}
 use Rattle.pages.specs.Geometry.{slotCount}
 use Rattle.pages.specs.Table.{withRows}
-use Rattle.page_ops.specs.TableLaws.{rows-next}
-use Rattle.page_ops.proofs.rows.put_rows.Statement.{statement}
-use Rattle.page_ops.proofs.rows.put_rows.Tie as tie
+use Rattle.page_rows.specs.TableLaws.{rows-next}
+use Rattle.page_rows.proofs.rows.put_rows.Statement.{statement}
+use Rattle.page_rows.proofs.rows.put_rows.Tie as tie
 
 abbrev Inv-loop : tie.InvT-loop
 Inv-loop a₀ p t s₀ a s = (s ≤ slotCount) × (length a ≡ length a₀) × (a ≡ withRows a₀ p t s)

@@ -7,9 +7,9 @@ use mathlib.Core.List.{[], _++_}
 use lib.ListN.{drop, replicate}
 use Rattle.pages.specs.Geometry.{slotCount}
 use Rattle.pages.specs.Table.{tabulate, rowOf, rowsOf}
-use Rattle.page_ops.specs.TableLaws.{wordsFrom, zeroRow, tab-none, tab-next, tab-end, row-words}
-use Rattle.page_ops.proofs.rows.rows_of.Statement.{statement}
-use Rattle.page_ops.proofs.rows.rows_of.Tie as tie
+use Rattle.page_rows.specs.TableLaws.{wordsFrom, zeroRow, tab-none, tab-next, tab-end, row-words}
+use Rattle.page_rows.proofs.rows.rows_of.Statement.{statement}
+use Rattle.page_rows.proofs.rows.rows_of.Tie as tie
 
 abbrev Inv-loop : tie.InvT-loop
 Inv-loop a p t₀ s₀ t s = (s ≤ slotCount) × (t ≡ tabulate (rowOf a p) s ++ drop s (replicate slotCount zeroRow))

@@ -8,8 +8,8 @@ use lib.Seq.{paste, paste-zero}
 use lib.ListN.{length, length-set, set, getD}
 use Rattle.pages.specs.Geometry.{slotWords}
 use Rattle.page_laws.specs.Runs.{paste-next}
-use Rattle.page_ops.proofs.rows.put_row.Statement.{statement}
-use Rattle.page_ops.proofs.rows.put_row.Tie as tie
+use Rattle.page_rows.proofs.rows.put_row.Statement.{statement}
+use Rattle.page_rows.proofs.rows.put_row.Tie as tie
 
 abbrev Inv-loop : tie.InvT-loop
 Inv-loop a₀ b r f₀ a f = (f ≤ slotWords) × (length a ≡ length a₀) × (a ≡ paste a₀ b r f)

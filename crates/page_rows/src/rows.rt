@@ -1,4 +1,3 @@
-// The rows of a page, by value.
 ghost use mathlib.Core.Path.{_≡_};
 ghost use Prim.Native.Nat.{_+_, _≤_};
 ghost use lib.ListN.{length};
@@ -6,7 +5,7 @@ ghost use lib.Seq.{paste};
 ghost use Rattle.words.specs.Tests.{if};
 ghost use Rattle.pages.specs.Geometry.{slotCount, slotWords, pageWords, pageAt};
 ghost use Rattle.pages.specs.Table.{rowsOf, withRows};
-ghost use Rattle.page_ops.specs.TableLaws.{wordsFrom, zeroRow, freedRows};
+ghost use Rattle.page_rows.specs.TableLaws.{wordsFrom, zeroRow, freedRows};
 
 // The words of a slot from b, by value.
 fn words_from(a: &[u32], b: usize) -> [u32; pages::SLOT_WORDS]

@@ -15,7 +15,7 @@ use Rattle.pages.specs.Geometry.{slotCount, slotWords, pageAt}
 use Rattle.pages.specs.Objects.{mapAt, slotWord, released}
 use Rattle.pages.specs.Table.{tabulate, rowOf, rowsOf, withRows}
 use Rattle.page_laws.specs.BitLaws.{clearBits}
-use Rattle.page_ops.specs.TableLaws.{length-tab, freedRow, freedRows}
+use Rattle.page_rows.specs.TableLaws.{length-tab, freedRow, freedRows}
 use Rattle.page_laws.specs.Places.{Holds, area-ext, map-put-map, word-put-map, length-released-in, map-released-in, word-released-in, length-rows, map-rows, word-rows}
 
 -- reading a table

@@ -9,9 +9,9 @@ use lib.ListN.{drop, getD}
 use Rattle.words.specs.Tests.{if}
 use Rattle.pages.specs.Geometry.{slotCount}
 use Rattle.pages.specs.Table.{tabulate}
-use Rattle.page_ops.specs.TableLaws.{zeroRow, freedRow, freedRows, tab-none, tab-next, tab-end}
-use Rattle.page_ops.proofs.rows.freed_rows.Statement.{statement}
-use Rattle.page_ops.proofs.rows.freed_rows.Tie as tie
+use Rattle.page_rows.specs.TableLaws.{zeroRow, freedRow, freedRows, tab-none, tab-next, tab-end}
+use Rattle.page_rows.proofs.rows.freed_rows.Statement.{statement}
+use Rattle.page_rows.proofs.rows.freed_rows.Tie as tie
 
 abbrev Inv-loop : tie.InvT-loop
 Inv-loop m t u₀ s₀ u s = (s ≤ slotCount) × (u ≡ tabulate (freedRow t m) s ++ drop s t)
