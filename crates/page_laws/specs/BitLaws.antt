@@ -11,6 +11,7 @@ use native.Mathlib.Omega.{arith}
 use borrow.Author.Tests.{eqb-true, eq-eqb, eqb-false, ltb-true, ltb-false, lt-ltb, le-ltb}
 use Rattle.words.specs.Tests.{if, by-bool, clash, and-true, and-false}
 use Rattle.words.specs.Bits.{bit, withBit, withoutBit, bit-low, bit-next, bit-le, without-same, without-other, without-le}
+use Rattle.pages.specs.Geometry.{slotCount}
 
 by-digit : (P : ℕ → Type 0) → P 0 → P 1 → (x : ℕ) → x < 2 → P x
 by-digit P a b zero h = a
@@ -49,7 +50,7 @@ or-without m k = rw (or-bit k m) (by-bool (bit m k) (λ e. rw e) (λ e. rw e (om
 pub or-le-r : (a b : ℕ) → b ≤ bitOr a b
 or-le-r a b = let s = or-add-and a b in let l = and-le-l a b in omega arith
 
--- w without the bits below k that m has
+-- 'map of freed slots': the map w without the bits below k that m has
 unfoldable pub clearBits : ℕ → ℕ → ℕ → ℕ
 clearBits w m zero = w
 clearBits w m (suc k) = let v = clearBits w m k in if (bit m k) (withoutBit v k) v
@@ -113,10 +114,10 @@ less-bit w m (suc j) = bit-next (bitOr w m - m) j
     ∙ ap (λ (x : ℕ). bit x j) (let s = less-step w m in let e : (bitOr w m - m) / 2 ≡ bitOr (w / 2) (m / 2) - m / 2 = omega arith in e)
     ∙ less-bit (w / 2) (m / 2) j ∙ rw (bit-next w j, bit-next m j)
 
-pub clear-or : (w m : ℕ) → w < 2 ^ 32 → m < 65536 → bitOr w m - m ≡ clearBits w m 16
-clear-or w m hw hm = bits-ext 32 (bitOr w m - m) (clearBits w m 16)
-    (let a = or-add-and w m in omega arith) (let c = clear-le w m 16 in omega arith)
-    (λ j. less-bit w m j ∙ sym (clear-bit w m 16 j ∙ ap (λ (t : Bool). bit w j && not t) (low j)))
+pub clear-or : (w m : ℕ) → w < 2 ^ 32 → m < 2 ^ slotCount → bitOr w m - m ≡ clearBits w m slotCount
+clear-or w m hw hm = bits-ext 32 (bitOr w m - m) (clearBits w m slotCount)
+    (let a = or-add-and w m in omega arith) (let c = clear-le w m slotCount in omega arith)
+    (λ j. less-bit w m j ∙ sym (clear-bit w m slotCount j ∙ ap (λ (t : Bool). bit w j && not t) (low j)))
   where
-    low : (j : ℕ) → (ltb j 16 && bit m j) ≡ bit m j
-    low j = by-bool (ltb j 16) (λ e. rw e) (λ e. rw (e, bit-above m 16 j hm (ltb-false j 16 e)))
+    low : (j : ℕ) → (ltb j slotCount && bit m j) ≡ bit m j
+    low j = by-bool (ltb j slotCount) (λ e. rw e) (λ e. rw (e, bit-above m slotCount j hm (ltb-false j slotCount e)))

@@ -1,4 +1,4 @@
--- Each change of a page area as it is seen object by object: an area of length 129 × n, objects x and o from 1 to 16 × n.
+-- Each change of a page area as it is seen object by object: an area of n pages, objects x and o from 1 to `objectCount n`.
 -- Assumes nothing.
 use Prim.Native.Nat.{ℕ, _*_, _<_, _≤_}
 use mathlib.Core.Path.{_≡_, refl, sym, ap, _∙_}
@@ -10,7 +10,7 @@ use native.Mathlib.Omega.{arith}
 use borrow.Author.Tests.{eqb-true, eqb-false, eq-eqb, lt-ltb}
 use Rattle.words.specs.Tests.{if, by-bool, and-true}
 use Rattle.words.specs.Bits.{bit, withBit, withoutBit, with-same, with-other, without-same, without-other}
-use Rattle.pages.specs.Geometry.{pageOf, slotOf}
+use Rattle.pages.specs.Geometry.{pageWords, slotCount, slotWords, objectCount, pageOf, slotOf}
 use Rattle.pages.specs.Objects.{mapAt, occupied, wordOf, takenSlot, freedSlot, occupy, release, written, released, copiedPage}
 use Rattle.page_laws.specs.BitLaws.{clear-bit}
 use Rattle.page_laws.specs.Places.{Holds, putSlot, length-put, map-put, map-set, length-released-in, map-released-in, length-copy, map-copy, word-copy}
@@ -25,7 +25,7 @@ pub length-freed : (a : List ℕ) (p s : ℕ) → length (freedSlot a p s) ≡ l
 unfolding freedSlot
 length-freed a p s = length-put a p s (withoutBit (mapAt a p) s)
 
-module _ (n : ℕ) (a : List ℕ) (o : ℕ) (len : length a ≡ 129 * n) (ho : 1 ≤ o) (lo : o ≤ 16 * n) where
+module _ (n : ℕ) (a : List ℕ) (o : ℕ) (len : length a ≡ pageWords * n) (ho : 1 ≤ o) (lo : o ≤ objectCount n) where
   holds : Holds a (pageOf o)
   holds = omega arith
 
@@ -51,29 +51,29 @@ module _ (n : ℕ) (a : List ℕ) (o : ℕ) (len : length a ≡ 129 * n) (ho : 1
 
   -- a word written
 
-  pub occupied-written : (f v : ℕ) → f < 8 → (x : ℕ) → occupied (written a o f v) x ≡ occupied a x
+  pub occupied-written : (f v : ℕ) → f < slotWords → (x : ℕ) → occupied (written a o f v) x ≡ occupied a x
   occupied-written f v hf x = ap (λ (m : ℕ). bit m (slotOf x)) (map-set a (pageOf o) (slotOf o) f v (omega arith) hf holds (pageOf x))
 
 -- the slots of a page's map freed
 
-module _ (n : ℕ) (a : List ℕ) (p m : ℕ) (len : length a ≡ 129 * n) (hp : p < n) where
-  pub length-released : length (released a p m) ≡ 129 * n
-  length-released = length-released-in a p m 16 ∙ len
+module _ (n : ℕ) (a : List ℕ) (p m : ℕ) (len : length a ≡ pageWords * n) (hp : p < n) where
+  pub length-released : length (released a p m) ≡ pageWords * n
+  length-released = length-released-in a p m slotCount ∙ len
 
   pub occupied-released : (x : ℕ) → occupied (released a p m) x ≡ (occupied a x && not (eqb (pageOf x) p && bit m (slotOf x)))
-  occupied-released x = ap (λ (w : ℕ). bit w (slotOf x)) (map-released-in a p m (omega arith) 16 (pageOf x) (omega arith)) ∙ by-bool (eqb (pageOf x) p)
-      (λ e. rw (e, eqb-true (pageOf x) p e) (clear-bit (mapAt a p) m 16 (slotOf x) ∙ rw (lt-ltb (slotOf x) 16 (omega arith))))
+  occupied-released x = ap (λ (w : ℕ). bit w (slotOf x)) (map-released-in a p m (omega arith) slotCount (pageOf x) (omega arith)) ∙ by-bool (eqb (pageOf x) p)
+      (λ e. rw (e, eqb-true (pageOf x) p e) (clear-bit (mapAt a p) m slotCount (slotOf x) ∙ rw (lt-ltb (slotOf x) slotCount (omega arith))))
       (λ e. rw e (sym (and-true (occupied a x))))
 
 -- a page copied
 
-module _ (n : ℕ) (from to : List ℕ) (p : ℕ) (lf : length from ≡ 129 * n) (lt : length to ≡ 129 * n) (hp : p < n) where
-  pub length-copied : length (copiedPage from to p) ≡ 129 * n
+module _ (n : ℕ) (from to : List ℕ) (p : ℕ) (lf : length from ≡ pageWords * n) (lt : length to ≡ pageWords * n) (hp : p < n) where
+  pub length-copied : length (copiedPage from to p) ≡ pageWords * n
   length-copied = length-copy from to p (omega arith) (omega arith) ∙ lt
 
   pub occupied-copied : (x : ℕ) → occupied (copiedPage from to p) x ≡ if (eqb (pageOf x) p) (occupied from x) (occupied to x)
   occupied-copied x = ap (λ (m : ℕ). bit m (slotOf x)) (map-copy from to p (omega arith) (omega arith) (pageOf x))
       ∙ by-bool (eqb (pageOf x) p) (λ e. rw e) (λ e. rw e)
 
-  pub word-copied : (x f : ℕ) → f < 8 → wordOf (copiedPage from to p) x f ≡ if (eqb (pageOf x) p) (wordOf from x f) (wordOf to x f)
+  pub word-copied : (x f : ℕ) → f < slotWords → wordOf (copiedPage from to p) x f ≡ if (eqb (pageOf x) p) (wordOf from x f) (wordOf to x f)
   word-copied x f hf = word-copy from to p (omega arith) (omega arith) (pageOf x) (slotOf x) f (omega arith) hf

@@ -1,4 +1,4 @@
--- Document 01, 'the image must equal the received page'. Assumes nothing.
+-- Images of a page, and areas, compared word by word. Assumes nothing.
 use Prim.Native.Nat.{ℕ, _+_}
 use mathlib.Core.Path.{_≡_, sym}
 use mathlib.Core.Bool.{Bool, true, _&&_}
@@ -11,7 +11,7 @@ use Rattle.words.specs.Spans.{same}
 use Rattle.pages.specs.Geometry.{pageAt, pageWords}
 use Rattle.page_ops.specs.Turns.{flag-next}
 
--- an image of one page is page p of an area
+-- 'the image must equal the received page': an image of one page is page p of an area
 unfoldable pub agrees : List ℕ → List ℕ → ℕ → Bool
 agrees image a p = same image 0 a (pageAt p) pageWords
 

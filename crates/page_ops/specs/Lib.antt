@@ -1,7 +1,4 @@
 -- Laws of page areas, in the terms that the code works in.
 pub mod Turns
-pub mod SoundLaws
-pub mod TableLaws
 pub mod Agreement
-pub mod RoundTrip
 pub mod Filling

@@ -1,37 +1,38 @@
 ghost use mathlib.Core.Path.{_≡_};
-ghost use Prim.Native.Nat.{_+_, _*_, _<_, _≤_};
+ghost use Prim.Native.Nat.{_+_, _≤_};
 ghost use lib.ListN.{length};
 ghost use Rattle.words.specs.Spans.{same};
+ghost use Rattle.pages.specs.Geometry.{pageAt, pageWords};
 ghost use Rattle.pages.specs.Objects.{copiedPage};
 ghost use Rattle.page_ops.specs.Agreement.{agrees};
 
 // Page p of one area, written into another.
 pub fn copy_page(from: &[u32], to: &mut [u32], p: usize)
-    requires { ⌜ (129 * p + 129 ≤ length (now from)) × (129 * p + 129 ≤ length (now to)) ⌝ }
+    requires { ⌜ (pageAt p + pageWords ≤ length (now from)) × (pageAt p + pageWords ≤ length (now to)) ⌝ }
     ensures { λ _. ⌜ now (to .exit) ≡ copiedPage (now (from .entry)) (now (to .entry)) p ⌝ }
 {
-    let b = 129 * p;
-    for i in 0..129usize {
+    let b = pages::PAGE_WORDS * p;
+    for i in 0..pages::PAGE_WORDS {
         to[b + i] = from[b + i];
     }
 }
 
 // Whether an image of one page equals page p of an area.
 pub fn page_agrees(image: &[u32], a: &[u32], p: usize) -> bool
-    requires { ⌜ (129 ≤ length (now image)) × (129 * p + 129 ≤ length (now a)) ⌝ }
+    requires { ⌜ (pageWords ≤ length (now image)) × (pageAt p + pageWords ≤ length (now a)) ⌝ }
     ensures { λ r. ⌜ r ≡ agrees (now (image .entry)) (now (a .entry)) p ⌝ }
 {
-    let b = 129 * p;
+    let b = pages::PAGE_WORDS * p;
     let mut ok = true;
-    for i in 0..129usize {
+    for i in 0..pages::PAGE_WORDS {
         ok = ok & (image[i] == a[b + i]);
     }
     ok
 }
 
-// Whether two areas of one length are the same.
+// Whether an area is the beginning of another, which is no shorter.
 pub fn areas_agree(a: &[u32], b: &[u32]) -> bool
-    requires { ⌜ length (now a) ≡ length (now b) ⌝ }
+    requires { ⌜ length (now a) ≤ length (now b) ⌝ }
     ensures { λ r. ⌜ r ≡ same (now (a .entry)) 0 (now (b .entry)) 0 (length (now (a .entry))) ⌝ }
 {
     let mut ok = true;

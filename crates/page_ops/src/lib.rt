@@ -1,7 +1,4 @@
-// Page areas: what is sound in them, their rows by value, their changes one object at a time, and copies of whole pages.
+// Page areas: their changes one object at a time, copies of whole pages, and areas as a whole.
 pub mod areas;
-pub mod bits;
 pub mod change;
 pub mod copy;
-pub mod rows;
-pub mod sound;

@@ -16,23 +16,8 @@ abbrev μ-loop : tie.MeasureT-loop
 loop-holds : tie.Need-loop-holds Inv-loop μ-loop
 loop-holds c = (omega arith, refl, refl, λ k l. absurd (omega arith))
 
-mul-a : tie.Need-mul-a Inv-loop μ-loop
-mul-a c = search needs
-
-slice-write-a : tie.Need-slice-write-a Inv-loop μ-loop
-slice-write-a c = search needs
-
-add-i : tie.Need-add-i Inv-loop μ-loop
-add-i c = search needs
-
-loop-less : tie.Need-loop-less Inv-loop μ-loop
-loop-less c = search needs
-
 loop-again : tie.Need-loop-again Inv-loop μ-loop
 loop-again c = (search needs, search needs, search needs, filled-next (c .before .loop .a) (λ k. 0) (length (c .before .before .args .a .now)) (c .before .loop .i) (c .before .loop .inv .2) (omega arith) (c .before .loop .inv .3))
-
-same-length : tie.Need-same-length Inv-loop μ-loop
-same-length c = search needs
 
 returns : tie.Need-returns Inv-loop μ-loop
 returns c = filled-zero (c .before .loop .a) (length (c .before .before .args .a .now)) (c .before .loop .i) (c .before .loop .inv .2) (omega arith) (c .before .loop .inv .3)
@@ -44,10 +29,10 @@ clear-spec =
     Inv-loop
     μ-loop
     loop-holds
-    mul-a
-    slice-write-a
-    add-i
-    loop-less
+    (λ c. search needs)
+    (λ c. search needs)
+    (λ c. search needs)
+    (λ c. search needs)
     loop-again
-    same-length
+    (λ c. search needs)
     returns)

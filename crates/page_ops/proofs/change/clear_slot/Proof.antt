@@ -1,60 +1,32 @@
 -- Invariant: the words passed are 0, the rest as at entry. Assumes nothing.
 use borrow.Author.Needs.{needs}
 use native.Mathlib.Omega.{arith}
-use Prim.Native.Nat.{_≤_, _-_}
-use mathlib.Core.Path.{_≡_, refl, _∙_}
+use Prim.Native.Nat.{ℕ, _≤_, _-_}
+use mathlib.Core.Path.{_≡_, refl, ap, _∙_}
 use lib.ListN.{length, length-set}
 use Rattle.words.specs.Spans.{fill}
+use Rattle.pages.specs.Geometry.{slotWords}
+use Rattle.pages.specs.Objects.{cleared}
 use Rattle.page_laws.specs.Runs.{fill-turn}
-use Rattle.page_ops.specs.TableLaws.{cleared-from}
 use Rattle.page_ops.proofs.change.clear_slot.Statement.{statement}
 use Rattle.page_ops.proofs.change.clear_slot.Tie as tie
 
 abbrev Inv-loop : tie.InvT-loop
-Inv-loop a₀ p s b f₀ a f = (f ≤ 8) × (length a ≡ length a₀) × (a ≡ fill (λ k. 0) a₀ b f)
+Inv-loop a₀ p s b f₀ a f = (f ≤ slotWords) × (length a ≡ length a₀) × (a ≡ fill (λ k. 0) a₀ b f)
 
 abbrev μ-loop : tie.MeasureT-loop
-μ-loop a₀ p s b f₀ a f = 8 - f
-
-mul-b : tie.Need-mul-b Inv-loop μ-loop
-mul-b c = search needs
-
-add-b : tie.Need-add-b Inv-loop μ-loop
-add-b c = search needs
-
-mul-b-2 : tie.Need-mul-b-2 Inv-loop μ-loop
-mul-b-2 c = search needs
-
-add-b-2 : tie.Need-add-b-2 Inv-loop μ-loop
-add-b-2 c = search needs
+μ-loop a₀ p s b f₀ a f = slotWords - f
 
 loop-holds : tie.Need-loop-holds Inv-loop μ-loop
 unfolding fill
 loop-holds c = (omega arith, refl, refl)
 
-add-a : tie.Need-add-a Inv-loop μ-loop
-add-a c = search needs
-
-mul-a : tie.Need-mul-a Inv-loop μ-loop
-mul-a c = search needs
-
-slice-write-a : tie.Need-slice-write-a Inv-loop μ-loop
-slice-write-a c = search needs
-
-add-f : tie.Need-add-f Inv-loop μ-loop
-add-f c = search needs
-
-loop-less : tie.Need-loop-less Inv-loop μ-loop
-loop-less c = search needs
-
 loop-again : tie.Need-loop-again Inv-loop μ-loop
 loop-again c = (omega arith, simp length-set (c .before .loop .inv .1), fill-turn _ _ _ _ _ (c .before .loop .inv .2))
 
-same-length : tie.Need-same-length Inv-loop μ-loop
-same-length c = search needs
-
 returns : tie.Need-returns Inv-loop μ-loop
-returns c = let e : c .before .loop .f ≡ 8 = omega arith in (rw e at (c .before .loop .inv .2)) ∙ cleared-from _ _ _
+unfolding cleared
+returns c = let e : c .before .loop .f ≡ slotWords = omega arith in (rw e at (c .before .loop .inv .2)) ∙ ap (λ (i : ℕ). fill (λ k. 0) (c .before .before .before .before .args .a .now) i slotWords) (c .before .before .slot-at .ensures)
 
 pub clear-slot-spec : {M : Type 1} → statement M
 clear-slot-spec =
@@ -62,16 +34,13 @@ clear-slot-spec =
     (tie.spec
     Inv-loop
     μ-loop
-    mul-b
-    add-b
-    mul-b-2
-    add-b-2
+    (λ c κs. search needs)
     loop-holds
-    add-a
-    mul-a
-    slice-write-a
-    add-f
-    loop-less
+    (λ c. search needs)
+    (λ c. search needs)
+    (λ c. search needs)
+    (λ c. search needs)
+    (λ c. search needs)
     loop-again
-    same-length
+    (λ c. search needs)
     returns)

@@ -5,54 +5,25 @@ use Prim.Native.Nat.{_≤_, _-_}
 use mathlib.Core.Path.{_≡_, refl}
 use lib.ListN.{length, length-set}
 use Rattle.words.specs.Spans.{copied}
+use Rattle.pages.specs.Geometry.{pageWords}
 use Rattle.page_laws.specs.Runs.{copied-none, copied-next}
 use Rattle.page_ops.proofs.copy.copy_page.Statement.{statement}
 use Rattle.page_ops.proofs.copy.copy_page.Tie as tie
 
 abbrev Inv-loop : tie.InvT-loop
-Inv-loop from to₀ p b i₀ to i = (i ≤ 129) × (length to ≡ length to₀) × (to ≡ copied from to₀ b i)
+Inv-loop from to₀ p b i₀ to i = (i ≤ pageWords) × (length to ≡ length to₀) × (to ≡ copied from to₀ b i)
 
 abbrev μ-loop : tie.MeasureT-loop
-μ-loop from to₀ p b i₀ to i = 129 - i
-
-mul-b : tie.Need-mul-b Inv-loop μ-loop
-mul-b c = search needs
+μ-loop from to₀ p b i₀ to i = pageWords - i
 
 loop-holds : tie.Need-loop-holds Inv-loop μ-loop
 loop-holds c = (omega arith, refl, copied-none _ _ _)
 
-add-to : tie.Need-add-to Inv-loop μ-loop
-add-to c = search needs
-
-mul-to : tie.Need-mul-to Inv-loop μ-loop
-mul-to c = search needs
-
-shared-slice-read-to : tie.Need-shared-slice-read-to Inv-loop μ-loop
-shared-slice-read-to c = search needs
-
-add-to-2 : tie.Need-add-to-2 Inv-loop μ-loop
-add-to-2 c = search needs
-
-mul-to-2 : tie.Need-mul-to-2 Inv-loop μ-loop
-mul-to-2 c = search needs
-
-slice-write-to : tie.Need-slice-write-to Inv-loop μ-loop
-slice-write-to c = search needs
-
-add-i : tie.Need-add-i Inv-loop μ-loop
-add-i c = search needs
-
-loop-less : tie.Need-loop-less Inv-loop μ-loop
-loop-less c = search needs
-
 loop-again : tie.Need-loop-again Inv-loop μ-loop
 loop-again c = (omega arith, simp length-set (c .before .before .loop .inv .1), copied-next _ _ _ _ _ (c .before .before .loop .inv .2) (omega arith) (omega arith))
 
-same-length : tie.Need-same-length Inv-loop μ-loop
-same-length c = search needs
-
 returns : tie.Need-returns Inv-loop μ-loop
-returns c = let e : c .before .loop .i ≡ 129 = omega arith in rw e at (c .before .loop .inv .2)
+returns c = let e : c .before .loop .i ≡ pageWords = omega arith in rw e at (c .before .loop .inv .2)
 
 pub copy-page-spec : {M : Type 1} → statement M
 copy-page-spec =
@@ -60,16 +31,16 @@ copy-page-spec =
     (tie.spec
     Inv-loop
     μ-loop
-    mul-b
+    (λ c. search needs)
     loop-holds
-    add-to
-    mul-to
-    shared-slice-read-to
-    add-to-2
-    mul-to-2
-    slice-write-to
-    add-i
-    loop-less
+    (λ c. search needs)
+    (λ c. search needs)
+    (λ c. search needs)
+    (λ c. search needs)
+    (λ c. search needs)
+    (λ c. search needs)
+    (λ c. search needs)
+    (λ c. search needs)
     loop-again
-    same-length
+    (λ c. search needs)
     returns)

@@ -4,42 +4,19 @@ use native.Mathlib.Omega.{arith}
 use Prim.Native.Nat.{_≤_, _-_}
 use mathlib.Core.Path.{_≡_, refl}
 use Rattle.words.specs.Spans.{same}
+use Rattle.pages.specs.Geometry.{pageWords}
 use Rattle.page_ops.specs.Agreement.{agrees, same-none, same-next, same-end}
 use Rattle.page_ops.proofs.copy.page_agrees.Statement.{statement}
 use Rattle.page_ops.proofs.copy.page_agrees.Tie as tie
 
 abbrev Inv-loop : tie.InvT-loop
-Inv-loop image a p b ok₀ i₀ ok i = (i ≤ 129) × (ok ≡ same image 0 a b i)
+Inv-loop image a p b ok₀ i₀ ok i = (i ≤ pageWords) × (ok ≡ same image 0 a b i)
 
 abbrev μ-loop : tie.MeasureT-loop
-μ-loop image a p b ok₀ i₀ ok i = 129 - i
-
-mul-b : tie.Need-mul-b Inv-loop μ-loop
-mul-b c = search needs
+μ-loop image a p b ok₀ i₀ ok i = pageWords - i
 
 loop-holds : tie.Need-loop-holds Inv-loop μ-loop
 loop-holds c = (omega arith, same-none _ _ _ _)
-
-mul-ok : tie.Need-mul-ok Inv-loop μ-loop
-mul-ok c = search needs
-
-shared-slice-read-ok : tie.Need-shared-slice-read-ok Inv-loop μ-loop
-shared-slice-read-ok c = search needs
-
-add-ok : tie.Need-add-ok Inv-loop μ-loop
-add-ok c = search needs
-
-mul-ok-2 : tie.Need-mul-ok-2 Inv-loop μ-loop
-mul-ok-2 c = search needs
-
-shared-slice-read-ok-2 : tie.Need-shared-slice-read-ok-2 Inv-loop μ-loop
-shared-slice-read-ok-2 c = search needs
-
-add-i : tie.Need-add-i Inv-loop μ-loop
-add-i c = search needs
-
-loop-less : tie.Need-loop-less Inv-loop μ-loop
-loop-less c = search needs
 
 loop-again : tie.Need-loop-again Inv-loop μ-loop
 loop-again c = (omega arith, same-next _ _ _ _ _ _ (c .before .before .before .loop .inv .1) refl)
@@ -54,14 +31,14 @@ page-agrees-spec =
     (tie.spec
     Inv-loop
     μ-loop
-    mul-b
+    (λ c. search needs)
     loop-holds
-    mul-ok
-    shared-slice-read-ok
-    add-ok
-    mul-ok-2
-    shared-slice-read-ok-2
-    add-i
-    loop-less
+    (λ c. search needs)
+    (λ c. search needs)
+    (λ c. search needs)
+    (λ c. search needs)
+    (λ c. search needs)
+    (λ c. search needs)
+    (λ c. search needs)
     loop-again
     returns)

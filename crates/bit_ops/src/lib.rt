@@ -1,0 +1,2 @@
+// Bits of a word.
+pub mod bits;

@@ -1,0 +1,2 @@
+-- The soundness of a page in the terms that the code works in.
+pub mod SoundLaws

@@ -1,0 +1,2 @@
+// What is sound in a page area.
+pub mod sound;

@@ -1,0 +1,2 @@
+// The rows of a page, by value.
+pub mod rows;
