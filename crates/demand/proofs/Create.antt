@@ -2,12 +2,12 @@
 use Prim.Native.Nat.{ℕ, suc, _≤_, _<_}
 use native.Mathlib.Omega.{arith}
 use mathlib.Core.Path.{_≡_, refl, sym, ap, _∙_}
-use mathlib.Core.Bool.{true, not, cond, _&&_}
+use mathlib.Core.Bool.{true, cond, _&&_}
 use mathlib.Core.List.{List, []}
 use mathlib.Core.Logic.{inl, inr}
 use lib.ListN.{length}
 use lib.Dec.{eqb}
-use borrow.Author.Tests.{eqb-true, eq-eqb, lt-ltb}
+use borrow.Author.Tests.{eqb-true, eq-eqb}
 use Rattle.words.specs.Tests.{all, all-at, and-split, or-cases, by-bool, clash}
 use Rattle.pages.specs.Geometry.{root, pageOf}
 use Rattle.pages.specs.Objects.{occupied}
@@ -29,14 +29,14 @@ use Rattle.collector.specs.Calls as C
 use Rattle.collector.proofs.Invariant as Collector
 use Rattle.collector.proofs.Create.{keep-create}
 use Rattle.shown.specs.Tables.{tablesOf}
-use Rattle.shown.proofs.Frames.{wider, is-object}
+use Rattle.shown.proofs.Frames.{wider}
 use Rattle.shown.proofs.Facts as Facts
 use Rattle.shown.proofs.Created.{makes, create-beside, create-tables}
 use Rattle.shown.proofs.Shows.{create-shows}
 use Rattle.recovery.proofs.Reversal.{view-free, create-back}
 use Rattle.book_laws.specs.Seen.{Seen, acted, seenFull}
 use Rattle.book_laws.proofs.Acts.{create-acts}
-use Rattle.book_laws.proofs.Soundness.{create-sound}
+use Rattle.record_laws.specs.SoundRecords.{create-sound}
 use Rattle.book_laws.proofs.Fed.{fed-inv}
 use Rattle.demand.proofs.State.{machine, OpenInv}
 use Rattle.demand.proofs.Change.{machine-shows, full-shown, Changing, change-runs, collector-after, open-change}
@@ -61,10 +61,8 @@ module _ (n : ℕ) (some : 1 ≤ n) (s : Areas) (b : Book) (i : OpenInv n s b) (
   abbrev m : ℕ
   m = suc (length (b .lines))
 
-  not-root : not (eqb o root) ≡ true
-  not-root = by-bool (eqb o root)
-      (λ e. clash (root-there n (s .received) (h .ranged .received-sound)) (ap (occupied (s .received)) (sym (eqb-true o root e)) ∙ f .free))
-      (λ e. rw e refl)
+  not-root : o ≡ root → ⊥
+  not-root e = clash (root-there n (s .received) (h .ranged .received-sound)) (ap (occupied (s .received)) (sym e) ∙ f .free)
 
   was-blank : seenFull b o .object ≡ blank
   was-blank = full-shown n some s b i o
@@ -76,7 +74,7 @@ module _ (n : ℕ) (some : 1 ≤ n) (s : Areas) (b : Book) (i : OpenInv n s b) (
     txn = refl;
     small = f .txn;
     active = f .active;
-    ok = create-sound n t (lt-ltb t 16 (f .txn)) o (is-object n o (f .object .low) (f .object .top)) not-root;
+    ok = create-sound n t (f .txn) o (f .object .top) (let l = f .object .low in omega (arith, not-root));
     room = f .room;
     own = Facts.own-is s n (machine n s b) (machine-shows n s b) t o (f .txn) (f .object) (f .lock);
     back = create-back (createOf t o) (seenFull b o .object) refl was-blank;

@@ -21,7 +21,7 @@ use Rattle.book.specs.Books as Books
 use Rattle.book.specs.Books.{Book, committedLines, fullLines, committedPages, fullPages, countsFull, storing}
 use Rattle.book.specs.Demand.{Point, Holds, Spares, Reopens, accepts, reclaims}
 use Rattle.book.specs.Pointers.{Reached, Leads}
-use Rattle.collector.specs.Bits.{_and_, true-and}
+use Rattle.collector.specs.Bits.{true-and}
 use Rattle.collector.specs.Objects as O
 use Rattle.collector.specs.Objects.{Obj, Reach, edge}
 use Rattle.collector.specs.State as M

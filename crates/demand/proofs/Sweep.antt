@@ -49,7 +49,7 @@ use Rattle.recovery.specs.Shapes.{shapes, recs}
 use Rattle.recovery.proofs.Decided.{SameCells, some-first}
 use Rattle.recovery.proofs.Invariant as Recovery
 use Rattle.recovery.proofs.Reversal.{view-occ}
-use Rattle.recovery.proofs.Sound.{sweep-sound}
+use Rattle.record_laws.specs.SoundRecords.{sweep-sound}
 use Rattle.recovery.proofs.Steps.{logOf, log-sweep}
 use Rattle.book_laws.specs.After.{sweptBy}
 use Rattle.book_laws.specs.Seen.{Seen, acted, seenCommitted, seenFull}
@@ -122,7 +122,7 @@ module _ (n : ℕ) (some : 1 ≤ n) (s : Areas) (b : Book) (i : OpenInv n s b) (
   small = map-lt (λ k. taken (s .copies) page k && unmarked (s .work) n page k) 16
 
   ok : recordSound n r ≡ true
-  ok = sweep-sound n page map below (let l = small in omega arith) spared
+  ok = sweep-sound n page map below small spared
 
   -- what the book shows
   swept-at : (x : ℕ) (v : Seen) → acted m r x v ≡ record { object = cond (dead x) blank (v .object); tag = cond (dead x) (bornAt m) (v .tag) }

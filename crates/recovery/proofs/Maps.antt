@@ -24,7 +24,7 @@ use Rattle.records.specs.Recovery.{redone, undoneIn, recovered}
 use Rattle.views.specs.View.{view}
 use Rattle.views.proofs.Places.{no-map, map-inside, slot-small, page-small, page-of-at, slot-of-at}
 use Rattle.views.proofs.Slots.{put-map, length-released}
-use Rattle.views.proofs.Sound.{sound-record}
+use Rattle.record_laws.specs.RecordLaws.{sound-record, named-object}
 use Rattle.views.proofs.Records.{creates, sets, uncreates, frees, other, kind-of}
 use Rattle.recovery.proofs.Reversal.{view-occ, view-word}
 use Rattle.recovery.proofs.Reopening.{EachSound, log-sound, length-redone, length-undone-if}
@@ -77,25 +77,25 @@ module _ (n : ℕ) (a : List ℕ) (len : length a ≡ 129 * n) (r : Record) (ok 
   place i = page-small n (r .object) (i .0) (i .1)
 
   written-small : (v : ℕ) → r .kind ≡ 3 → Small n (set a (slotAt (pageOf (r .object)) (slotOf (r .object)) (r .field)) v)
-  written-small v k q l = let s = sound-record n r ok in let i = s .object (rw k refl) in
-      rw (put-map n a len (pageOf (r .object)) (slotOf (r .object)) (r .field) v (place i) (slot-small (r .object)) (s .field k) q) (h q l)
+  written-small v k q l = let s = sound-record n r ok in let i = named-object n r s (rw k refl) in
+      rw (put-map n a len (pageOf (r .object)) (slotOf (r .object)) (r .field) v (place i) (slot-small (r .object)) (s .field-below) q) (h q l)
 
   pub small-effect : Small n (effect a r)
   unfolding effect
   small-effect = elim (kind-of r) [
-    | creates k ↦ (let i = sound-record n r ok .object (rw k refl) in rw k (small-taken n a len (pageOf (r .object)) (slotOf (r .object)) (place i) (slot-small (r .object)) h))
+    | creates k ↦ (let i = named-object n r (sound-record n r ok) (rw k refl) in rw k (small-taken n a len (pageOf (r .object)) (slotOf (r .object)) (place i) (slot-small (r .object)) h))
     | sets k ↦ rw k (written-small (r .new) k)
-    | uncreates k ↦ (let i = sound-record n r ok .object (rw k refl) in rw k (small-freed n a len (pageOf (r .object)) (slotOf (r .object)) (place i) (slot-small (r .object)) h))
-    | frees k ↦ rw k (small-released n a len (r .object) (r .new) (sound-record n r ok .page k) h 16 (omega arith))
+    | uncreates k ↦ (let i = named-object n r (sound-record n r ok) (rw k refl) in rw k (small-freed n a len (pageOf (r .object)) (slotOf (r .object)) (place i) (slot-small (r .object)) h))
+    | frees k ↦ rw k (small-released n a len (r .object) (r .new) (sound-record n r ok .sweep k .0) h 16 (omega arith))
     | other p q s t ↦ rw (p, q, s, t) h
   ]
 
   pub small-undone : Small n (undone a r)
   unfolding undone
   small-undone = elim (kind-of r) [
-    | creates k ↦ (let i = sound-record n r ok .object (rw k refl) in rw k (small-freed n a len (pageOf (r .object)) (slotOf (r .object)) (place i) (slot-small (r .object)) h))
+    | creates k ↦ (let i = named-object n r (sound-record n r ok) (rw k refl) in rw k (small-freed n a len (pageOf (r .object)) (slotOf (r .object)) (place i) (slot-small (r .object)) h))
     | sets k ↦ rw k (written-small (r .old) k)
-    | uncreates k ↦ (let i = sound-record n r ok .object (rw k refl) in rw k (small-taken n a len (pageOf (r .object)) (slotOf (r .object)) (place i) (slot-small (r .object)) h))
+    | uncreates k ↦ (let i = named-object n r (sound-record n r ok) (rw k refl) in rw k (small-taken n a len (pageOf (r .object)) (slotOf (r .object)) (place i) (slot-small (r .object)) h))
     | frees k ↦ rw k h
     | other p q s t ↦ rw (p, q, s) h
   ]

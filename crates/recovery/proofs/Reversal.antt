@@ -8,12 +8,14 @@ use mathlib.Core.Logic.{_⊎_, inl, inr}
 use lib.Dec.{eqb, ltb}
 use borrow.Author.Tests.{eqb-true, eq-eqb, le-leb, lt-ltb, ltb-true}
 use Rattle.words.specs.Tests.{all-at, by-bool, clash, or-cases}
+use Rattle.words.specs.Bits.{bit}
 use Rattle.pages.specs.Geometry.{pageOf, slotOf}
 use Rattle.pages.specs.Objects.{occupied, wordOf, taken}
 use Rattle.pages.specs.Soundness.{slotZero, freeZero}
 use Rattle.records.specs.declared.Record.{Record}
 use Rattle.records.specs.Records.{setOf, uncreateOf}
 use Rattle.records.specs.Effects.{undoing}
+use Rattle.records.specs.Order.{openNext, inOrder}
 use Rattle.collector.specs.Objects.{Obj, blank, put}
 use Rattle.views.specs.View.{view, applied, unapplied}
 use Rattle.views.proofs.Places.{slot-small}
@@ -48,6 +50,21 @@ module _ (r : Record) where
   -- the line of the undoing record takes the record's line back
   pub shape-undoing : Change r → shape (undoing r) ≡ acts (r .txn) (r .object) (unapplied r (r .object)) (applied r (r .object))
   shape-undoing c = undoing-shape c ∙ (λ j. acts (r .txn) (r .object) (λ b. undoing-applied c b j) (λ b. undoing-unapplied c b j))
+
+  -- it is a change by kind, in order while its transaction is open, and leaves the open transactions
+  pub change-kind : Change r → (eqb (r .kind) 2 || eqb (r .kind) 3) ≡ true
+  change-kind (inl k) = rw k refl
+  change-kind (inr k) = rw k refl
+
+  pub undoing-order : (m : ℕ) → Change r → bit m (r .txn) ≡ true → inOrder m (undoing r) ≡ true
+  unfolding undoing
+  undoing-order m (inl k) h = rw k h
+  undoing-order m (inr k) h = rw k h
+
+  pub undoing-open : (m : ℕ) → Change r → openNext m (undoing r) ≡ m
+  unfolding undoing
+  undoing-open m (inl k) = rw k refl
+  undoing-open m (inr k) = rw k refl
 
   -- undoing gives back: a create of a free object with zeros, a set whose old word stands there, an uncreate of a new object
   pub create-back : (v : Obj) → r .kind ≡ 2 → v ≡ blank → unapplied r (r .object) (applied r (r .object) v) ≡ v

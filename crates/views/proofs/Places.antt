@@ -1,5 +1,5 @@
 -- Where the words of objects stand: no two at one place. Assumes nothing.
-use Prim.Native.Nat.{ℕ, _+_, _*_, _-_, _≤_, _<_}
+use Prim.Native.Nat.{ℕ, _+_, _*_, _≤_, _<_}
 use native.Mathlib.Omega.{arith}
 use mathlib.Core.Path.{_≡_}
 use Rattle.pages.specs.Geometry.{pageAt, slotAt, objectAt, pageOf, slotOf}

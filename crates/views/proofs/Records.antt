@@ -14,12 +14,13 @@ use Rattle.pages.specs.Objects.{released}
 use Rattle.records.specs.declared.Record.{Record}
 use Rattle.records.specs.Soundness.{namesObject, recordSound}
 use Rattle.records.specs.Effects.{effect, undone}
+use Rattle.record_laws.specs.RecordLaws.{SoundRecord, sound-record, named-object}
+use Rattle.record_laws.specs.SoundRecords.{sweep-spares}
 use Rattle.collector.specs.Objects.{Obj, blank, put}
 use Rattle.views.specs.View.{view, applied, unapplied}
 use Rattle.views.proofs.Places.{slot-small, page-small}
 use Rattle.views.proofs.Slots.{length-taken, length-freed, length-released}
 use Rattle.views.proofs.Effects.{occupy-view, release-view, written-view, released-view}
-use Rattle.views.proofs.Sound.{SoundRecord, sound-record}
 
 -- the four kinds that change pages, and the others
 pub data Kind (r : Record) : Type 0 where
@@ -38,7 +39,7 @@ module _ (n : ℕ) (a : List ℕ) (len : length a ≡ 129 * n) (r : Record) (ok 
   facts = sound-record n r ok
 
   range : namesObject r ≡ true → (1 ≤ r .object) × (r .object ≤ 16 * n)
-  range h = facts .object h
+  range = named-object n r facts
 
   swap : (x : ℕ) → eqb x (r .object) ≡ eqb (r .object) x
   swap x = by-bool (eqb x (r .object)) (λ e. rw (e, eqb-true x (r .object) e, eq-eqb (r .object) (r .object) refl) refl)
@@ -48,18 +49,18 @@ module _ (n : ℕ) (a : List ℕ) (len : length a ≡ 129 * n) (r : Record) (ok 
   put-here x f v = by-bool (eqb (r .object) x) (λ e. rw (e, eqb-true (r .object) x e) refl) (λ e. rw e refl)
 
   no-root : (x : ℕ) → r .kind ≡ 7 → x ≡ 0 → (eqb (r .object) (pageOf x) && bit (r .new) (slotOf x)) ≡ false
-  no-root x k z = rw z (facts .spared k)
+  no-root x k z = rw z (sweep-spares n r facts k)
 
   swept-view : r .kind ≡ 7 → (x : ℕ) → view (released a (r .object) (r .new)) x ≡ if (eqb (r .object) (pageOf x) && bit (r .new) (slotOf x)) blank (view a x)
   unfolding view
   swept-view k zero = rw (no-root 0 k refl) refl
-  swept-view k (suc y) = released-view n a len (r .object) (r .new) (facts .page k) (suc y) (omega arith)
+  swept-view k (suc y) = released-view n a len (r .object) (r .new) (facts .sweep k .0) (suc y) (omega arith)
 
   pub effect-view : (x : ℕ) → view (effect a r) x ≡ applied r x (view a x)
   unfolding effect applied
   effect-view x = elim (kind-of r) [
     | creates k ↦ (let i = range (rw k refl) in rw k (occupy-view n a len (r .object) (i .0) (i .1) x ∙ rw (swap x) refl))
-    | sets k ↦ (let i = range (rw k refl) in rw k (written-view n a len (r .object) (i .0) (i .1) (r .field) (r .new) (facts .field k) x ∙ rw (swap x) (put-here x (r .field) (r .new))))
+    | sets k ↦ (let i = range (rw k refl) in rw k (written-view n a len (r .object) (i .0) (i .1) (r .field) (r .new) (facts .field-below) x ∙ rw (swap x) (put-here x (r .field) (r .new))))
     | uncreates k ↦ (let i = range (rw k refl) in rw k (release-view n a len (r .object) (i .0) (i .1) x ∙ rw (swap x) (or-right (eqb (r .object) x) (view a x))))
     | frees k ↦ rw k (swept-view k x)
     | other p q s t ↦ rw (p, q, s, t) refl
@@ -73,7 +74,7 @@ module _ (n : ℕ) (a : List ℕ) (len : length a ≡ 129 * n) (r : Record) (ok 
   unfolding undone unapplied
   undone-view x = elim (kind-of r) [
     | creates k ↦ (let i = range (rw k refl) in rw k (release-view n a len (r .object) (i .0) (i .1) x ∙ rw (swap x) refl))
-    | sets k ↦ (let i = range (rw k refl) in rw k (written-view n a len (r .object) (i .0) (i .1) (r .field) (r .old) (facts .field k) x ∙ rw (swap x) (put-here x (r .field) (r .old))))
+    | sets k ↦ (let i = range (rw k refl) in rw k (written-view n a len (r .object) (i .0) (i .1) (r .field) (r .old) (facts .field-below) x ∙ rw (swap x) (put-here x (r .field) (r .old))))
     | uncreates k ↦ (let i = range (rw k refl) in rw k (occupy-view n a len (r .object) (i .0) (i .1) x ∙ rw (swap x) refl))
     | frees k ↦ rw k refl
     | other p q s t ↦ rw (p, q, s) refl
@@ -85,7 +86,7 @@ module _ (n : ℕ) (a : List ℕ) (len : length a ≡ 129 * n) (r : Record) (ok 
     | creates k ↦ (let i = range (rw k refl) in rw k (length-taken n a len (pageOf (r .object)) (slotOf (r .object)) (page-small n (r .object) (i .0) (i .1)) (slot-small (r .object))))
     | sets k ↦ rw k (length-set a (slotAt (pageOf (r .object)) (slotOf (r .object)) (r .field)) (r .new))
     | uncreates k ↦ (let i = range (rw k refl) in rw k (length-freed n a len (pageOf (r .object)) (slotOf (r .object)) (page-small n (r .object) (i .0) (i .1)) (slot-small (r .object))))
-    | frees k ↦ rw k (length-released n a len (r .object) (r .new) (facts .page k) 16 (omega arith))
+    | frees k ↦ rw k (length-released n a len (r .object) (r .new) (facts .sweep k .0) 16 (omega arith))
     | other p q s t ↦ rw (p, q, s, t) refl
   ]
 
