@@ -14,7 +14,8 @@ use Rattle.records.specs.Order.{openIn, inOrder, logSound}
 use Rattle.areas.specs.Areas.{Areas, stableCount}
 use Rattle.calls.specs.Formatting.{cut}
 use Rattle.book.specs.Books.{awaiting, Book, stopped}
-use Rattle.recovery.proofs.Appending.{recs-same, open-same}
+use Rattle.record_laws.specs.RecordLaws.{open-same}
+use Rattle.recovery.proofs.Appending.{recs-same}
 use Rattle.demand.proofs.State.{stable, Inv3, cut-store}
 use Rattle.demand.proofs.Stopping.{stops, inv-size, waiting-moved}
 

@@ -28,7 +28,7 @@ use Rattle.collector.specs.State as M
 use Rattle.collector.specs.Claim as Claim
 use Rattle.collector.specs.Calls as C
 use Rattle.collector.proofs.Safety.{sound}
-use Rattle.recovery.proofs.Reversal.{view-occ}
+use Rattle.views.proofs.Effects.{view-occ}
 use Rattle.shown.specs.Tables.{phaseOf}
 use Rattle.shown_pass.proofs.Sweep.{deadAt, swept-view}
 use Rattle.book_laws.specs.Seen.{committedOf, seenCommitted, seenFull}

@@ -21,7 +21,7 @@ use Rattle.collector.specs.Claim as Claim
 use Rattle.collector.proofs.Objects.{points-some, word-edge}
 use Rattle.views.specs.View.{view, applied, names}
 use Rattle.record_laws.specs.RecordLaws.{SoundRecord, sound-record}
-use Rattle.recovery.proofs.Reversal.{view-occ, view-word}
+use Rattle.views.proofs.Effects.{view-occ, view-word}
 use Rattle.book_laws.specs.Seen.{seen, first}
 use Rattle.book_laws.specs.Keeping.{here, later, SoundLines}
 use Rattle.book_laws.proofs.Folds.{after-view}

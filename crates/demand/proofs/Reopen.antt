@@ -19,7 +19,8 @@ use Rattle.book.specs.Books.{storing, Book, committedPages, stopped}
 use Rattle.book.specs.Feeding.{fed}
 use Rattle.recovery.specs.Shapes.{recs}
 use Rattle.recovery.proofs.Maps.{small-sound, small-recovered}
-use Rattle.recovery.proofs.Reopening.{length-recovered, recovered-view}
+use Rattle.record_laws.specs.EffectLaws.{length-recovered}
+use Rattle.recovery.proofs.Reopening.{recovered-view}
 use Rattle.book_laws.specs.Seen.{Seen}
 use Rattle.book_laws.proofs.Pages.{stop-one}
 use Rattle.demand.proofs.State.{Waiting, StoringInv, Inv3, reopening-store}
@@ -44,7 +45,7 @@ module _ (n : ℕ) (some : 1 ≤ n) (s : Areas) (b : Book) (i : Inv3 n s b) (f :
   recovered-committed : recovered (s .stored) (s .log) (stableCount s) ≡ committedPages n b′
   recovered-committed = let g = recovers .log-sound in let l = size .stored-len in
       full-ext n some b′ (waits .sound) (recovered (s .stored) (s .log) (stableCount s))
-      (length-recovered n (s .stored) (s .log) (stableCount s) l g)
+      (length-recovered (s .stored) (s .log) (stableCount s) ∙ l)
       (small-recovered n (s .stored) (s .log) (stableCount s) l (small-sound n (s .stored) (recovers .stored-sound)) g)
       (λ x. recovered-view n (s .stored) (s .log) (stableCount s) l g x ∙ waits .gives x ∙ sym (ap (λ (v : Seen). v .object) (stop-one (storing 0) b x)))
       ∙ ap (pagesAfter n) (idle-full b′ (waits .idle))

@@ -20,7 +20,7 @@ use Rattle.book.specs.Books.{blank, countsCommitted, committedLines}
 use Rattle.book.specs.Pointers.{Reached, root, next, unbroken, Leads}
 use Rattle.collector.specs.Objects as O
 use Rattle.collector.specs.Objects.{Obj}
-use Rattle.recovery.proofs.Reversal.{view-word}
+use Rattle.views.proofs.Effects.{view-word}
 use Rattle.book_laws.specs.Seen.{first}
 use Rattle.book_laws.proofs.Folds.{formatted-length, formatted-view}
 use Rattle.book_laws.proofs.Invariant.{blank-inv}

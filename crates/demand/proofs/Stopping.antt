@@ -26,7 +26,7 @@ use Rattle.recovery.specs.Lines as Log
 use Rattle.recovery.specs.Shapes.{shapes}
 use Rattle.recovery.proofs.Appending.{recs-drop, log-prefix}
 use Rattle.recovery.proofs.Decided.{decided}
-use Rattle.recovery.proofs.Reversal.{view-occ}
+use Rattle.views.proofs.Effects.{view-occ}
 use Rattle.recovery.proofs.Steps.{log-recs}
 use Rattle.book_laws.specs.Seen.{counted, committedOf, seen}
 use Rattle.book_laws.specs.Keeping.{here, later, SoundLines, BookInv}

@@ -48,7 +48,7 @@ use Rattle.shown_pass.proofs.Sweep.{deadAt-is, swept-view, on-locks, on-tables,
 use Rattle.recovery.specs.Shapes.{shapes, recs}
 use Rattle.recovery.proofs.Decided.{SameCells, some-first}
 use Rattle.recovery.proofs.Invariant as Recovery
-use Rattle.recovery.proofs.Reversal.{view-occ}
+use Rattle.views.proofs.Effects.{view-occ}
 use Rattle.record_laws.specs.SoundRecords.{sweep-sound}
 use Rattle.recovery.proofs.Steps.{logOf, log-sweep}
 use Rattle.book_laws.specs.After.{sweptBy}

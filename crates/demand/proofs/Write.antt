@@ -32,7 +32,8 @@ use Rattle.shown.proofs.Areas.{reference}
 use Rattle.shown.proofs.Facts as Facts
 use Rattle.shown.proofs.Written.{writes, set-beside, set-tables}
 use Rattle.shown.proofs.Shows.{set-shows}
-use Rattle.recovery.proofs.Reversal.{view-word, set-back}
+use Rattle.views.proofs.Effects.{view-word}
+use Rattle.recovery.proofs.Reversal.{set-back}
 use Rattle.book_laws.specs.Seen.{Seen, acted, seenFull}
 use Rattle.book_laws.proofs.Acts.{set-acts}
 use Rattle.record_laws.specs.SoundRecords.{set-sound}

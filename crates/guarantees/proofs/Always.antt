@@ -51,7 +51,7 @@ use Rattle.records.specs.Records.{setOf}
 use Rattle.collector.specs.Objects.{Obj}
 use Rattle.views.proofs.Places.{page-of-at, slot-of-at}
 use Rattle.recovery.proofs.Maps.{small-formatted}
-use Rattle.recovery.proofs.Reversal.{view-occ, view-word}
+use Rattle.views.proofs.Effects.{view-occ, view-word}
 use Rattle.book_laws.specs.Seen.{first, committedOf}
 use Rattle.book_laws.proofs.Folds.{formatted-length, formatted-view}
 use Rattle.book_laws.proofs.Sweeps.{sweep-kept}

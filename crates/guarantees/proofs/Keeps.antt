@@ -46,7 +46,7 @@ use Rattle.shown.specs.Tables.{locksOf}
 use Rattle.shown.proofs.Facts.{act-is, kn-is}
 use Rattle.recovery.proofs.Changes.{changes-left}
 use Rattle.recovery.proofs.Maps.{Small}
-use Rattle.recovery.proofs.Reversal.{view-occ}
+use Rattle.views.proofs.Effects.{view-occ}
 use Rattle.recovery.proofs.Reopening.{log-sound}
 use Rattle.recovery.proofs.Rolling.{Undoable, changes-undoable, rolled-rest}
 use Rattle.book_laws.specs.Seen.{Seen, committedOf, seenCommitted, seenFull}

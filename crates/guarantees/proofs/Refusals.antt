@@ -45,7 +45,8 @@ use Rattle.book.specs.Lines.{pagesAfter}
 use Rattle.book.specs.Books.{Book, storing, committedLines, committedPages, stopped}
 use Rattle.book.specs.Demand.{Event, Point, after, start}
 use Rattle.recovery.proofs.Maps.{small-sound, small-recovered}
-use Rattle.recovery.proofs.Reopening.{length-recovered, recovered-view}
+use Rattle.record_laws.specs.EffectLaws.{length-recovered}
+use Rattle.recovery.proofs.Reopening.{recovered-view}
 use Rattle.book_laws.specs.Seen.{Seen, committedOf}
 use Rattle.book_laws.proofs.Pages.{stop-one}
 use Rattle.demand.proofs.State.{machine, Waiting, Inv3}
@@ -103,7 +104,7 @@ module _ (n : ℕ) (some : 1 ≤ n) (s : Areas) (b : Book) (i : Inv3 n s b) (f :
   recovered-committed : recovered (s .stored) (s .log) (stableCount s) ≡ committedPages n b′
   recovered-committed = let g = waits .order in let l = f .sized .stored-len in
       full-ext n some b′ (waits .sound) (recovered (s .stored) (s .log) (stableCount s))
-      (length-recovered n (s .stored) (s .log) (stableCount s) l g)
+      (length-recovered (s .stored) (s .log) (stableCount s) ∙ l)
       (small-recovered n (s .stored) (s .log) (stableCount s) l (small-sound n (s .stored) (f .stored)) g)
       (λ x. recovered-view n (s .stored) (s .log) (stableCount s) l g x ∙ waits .gives x ∙ sym (ap (λ (v : Seen). v .object) (stop-one (storing 0) b x)))
       ∙ ap (pagesAfter n) (idle-full b′ (waits .idle))

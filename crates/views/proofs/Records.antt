@@ -4,12 +4,12 @@ use native.Mathlib.Omega.{arith}
 use mathlib.Core.Path.{_≡_, refl, sym, _∙_}
 use mathlib.Core.Bool.{Bool, true, false, _&&_, _||_}
 use mathlib.Core.List.{List}
-use lib.ListN.{length, length-set}
+use lib.ListN.{length}
 use lib.Dec.{eqb}
 use borrow.Author.Tests.{eqb-true, eqb-false, eq-eqb, ne-eqb}
 use Rattle.words.specs.Tests.{if, by-bool}
 use Rattle.words.specs.Bits.{bit}
-use Rattle.pages.specs.Geometry.{slotAt, pageOf, slotOf}
+use Rattle.pages.specs.Geometry.{pageOf, slotOf}
 use Rattle.pages.specs.Objects.{released}
 use Rattle.records.specs.declared.Record.{Record}
 use Rattle.records.specs.Soundness.{namesObject, recordSound}
@@ -18,8 +18,6 @@ use Rattle.record_laws.specs.RecordLaws.{SoundRecord, sound-record, named-objec
 use Rattle.record_laws.specs.SoundRecords.{sweep-spares}
 use Rattle.collector.specs.Objects.{Obj, blank, put}
 use Rattle.views.specs.View.{view, applied, unapplied}
-use Rattle.views.proofs.Places.{slot-small, page-small}
-use Rattle.views.proofs.Slots.{length-taken, length-freed, length-released}
 use Rattle.views.proofs.Effects.{occupy-view, release-view, written-view, released-view}
 
 -- the four kinds that change pages, and the others
@@ -76,26 +74,6 @@ module _ (n : ℕ) (a : List ℕ) (len : length a ≡ 129 * n) (r : Record) (ok 
     | creates k ↦ (let i = range (rw k refl) in rw k (release-view n a len (r .object) (i .0) (i .1) x ∙ rw (swap x) refl))
     | sets k ↦ (let i = range (rw k refl) in rw k (written-view n a len (r .object) (i .0) (i .1) (r .field) (r .old) (facts .field-below) x ∙ rw (swap x) (put-here x (r .field) (r .old))))
     | uncreates k ↦ (let i = range (rw k refl) in rw k (occupy-view n a len (r .object) (i .0) (i .1) x ∙ rw (swap x) refl))
-    | frees k ↦ rw k refl
-    | other p q s t ↦ rw (p, q, s) refl
-  ]
-
-  pub length-effect : length (effect a r) ≡ length a
-  unfolding effect
-  length-effect = elim (kind-of r) [
-    | creates k ↦ (let i = range (rw k refl) in rw k (length-taken n a len (pageOf (r .object)) (slotOf (r .object)) (page-small n (r .object) (i .0) (i .1)) (slot-small (r .object))))
-    | sets k ↦ rw k (length-set a (slotAt (pageOf (r .object)) (slotOf (r .object)) (r .field)) (r .new))
-    | uncreates k ↦ (let i = range (rw k refl) in rw k (length-freed n a len (pageOf (r .object)) (slotOf (r .object)) (page-small n (r .object) (i .0) (i .1)) (slot-small (r .object))))
-    | frees k ↦ rw k (length-released n a len (r .object) (r .new) (facts .sweep k .0) 16 (omega arith))
-    | other p q s t ↦ rw (p, q, s, t) refl
-  ]
-
-  pub length-undone : length (undone a r) ≡ length a
-  unfolding undone
-  length-undone = elim (kind-of r) [
-    | creates k ↦ (let i = range (rw k refl) in rw k (length-freed n a len (pageOf (r .object)) (slotOf (r .object)) (page-small n (r .object) (i .0) (i .1)) (slot-small (r .object))))
-    | sets k ↦ rw k (length-set a (slotAt (pageOf (r .object)) (slotOf (r .object)) (r .field)) (r .old))
-    | uncreates k ↦ (let i = range (rw k refl) in rw k (length-taken n a len (pageOf (r .object)) (slotOf (r .object)) (page-small n (r .object) (i .0) (i .1)) (slot-small (r .object))))
     | frees k ↦ rw k refl
     | other p q s t ↦ rw (p, q, s) refl
   ]
