@@ -95,16 +95,16 @@ seen-struck c i [] x = refl
 seen-struck c i (l ∷ ls) x = rw (length-struck i ls, seen-struck c i ls x, strike-entry i l)
 
 -- the pages of a formatted store
-abbrev zeros : ℕ → List ℕ
+abbrev pub zeros : ℕ → List ℕ
 zeros n = replicate n 0
 
-none-at : (n i : ℕ) → getD (zeros n) i 0 ≡ 0
-none-at n i = elim (decLt i n) [ yes l ↦ getD-replicate n i 0 0 l | no l ↦ List·getD-eq-default (zeros n) 0 (rw (length-replicate {A = ℕ} n 0) (omega arith)) ]
+pub zero-at : (n i : ℕ) → getD (zeros n) i 0 ≡ 0
+zero-at n i = elim (decLt i n) [ yes l ↦ getD-replicate n i 0 0 l | no l ↦ List·getD-eq-default (zeros n) 0 (rw (length-replicate {A = ℕ} n 0) (omega arith)) ]
 
 zeros-view : (n x : ℕ) → view (zeros n) x ≡ blank
 unfolding blank
-zeros-view n x = view-by (zeros n) (λ y. blank) (λ y h. obj-ext _ _ (ap (λ (m : ℕ). bit m (slotOf y)) (none-at n (pageAt (pageOf y))) ∙ bit-none (slotOf y))
-    (λ f. by-bool (ltb f 8) (λ e. rw (e, none-at n (slotAt (pageOf y) (slotOf y) f))) (λ e. rw e))) refl x
+zeros-view n x = view-by (zeros n) (λ y. blank) (λ y h. obj-ext _ _ (ap (λ (m : ℕ). bit m (slotOf y)) (zero-at n (pageAt (pageOf y))) ∙ bit-none (slotOf y))
+    (λ f. by-bool (ltb f 8) (λ e. rw (e, zero-at n (slotAt (pageOf y) (slotOf y) f))) (λ e. rw e))) refl x
 
 module _ (n : ℕ) (some : 1 ≤ n) where
   zeros-length : length (zeros (129 * n)) ≡ 129 * n

@@ -44,7 +44,7 @@ ref-four b f h = ltb-true f 4 h
 ref-small : (b : Obj) (f : ℕ) → O.isRef b f ≡ true → f < 8
 ref-small b f h = let k = ref-four b f h in omega arith
 
-first-word : (x f : ℕ) → first x .object .word f ≡ 0
+pub first-word : (x f : ℕ) → first x .object .word f ≡ 0
 unfolding O.fresh O.blank
 first-word x f = by-bool (eqb x 1) (λ e. rw e refl) (λ e. rw e refl)
 

@@ -15,6 +15,7 @@ use borrow.Author.Tests.{ltb-true, leb-true, eqb-true, eqb-false, lt-ltb, le-leb
 use Rattle.words.specs.Tests.{if, all, any, by-bool, clash, if-t, if-f, and-t, and-f, and-false, and-l, and-r, or-cases, or-false-l, or-false-r, all-at, all-end, all-next, all-stop, all-intro, any-next}
 use Rattle.words.specs.Bits.{bit}
 use Rattle.pages.specs.Geometry.{isObject}
+use Rattle.page_laws.specs.Places.{object-range}
 use Rattle.records.specs.declared.Record.{Record}
 use Rattle.records.specs.Records.{made, recordAt, recorded, isBegin, isChange, isSweep}
 use Rattle.records.specs.Soundness.{txnSound, namesObject, objectSound, fieldSound, newSound, referenceSound, wordSound, recordSound, recordsSound}
@@ -191,9 +192,7 @@ pub record SoundRecord (n : ℕ) (r : Record) : Type 0 where
 
 -- an object that a record names, and one that is not the root
 named : (n o : ℕ) (x : Bool) → isObject n o && x ≡ true → (1 ≤ o) × (o ≤ 16 * n)
-named n o x h =
-    let p = and-l (isObject n o) x h in
-    (leb-true 1 o (and-l (leb 1 o) (leb o (16 * n)) p), leb-true o (16 * n) (and-r (leb 1 o) (leb o (16 * n)) p))
+named n o x h = object-range n o (and-l (isObject n o) x h)
 
 named-not-root : (n o : ℕ) → isObject n o && not (eqb o 1) ≡ true → (1 < o) × (o ≤ 16 * n)
 named-not-root n o h =
@@ -307,6 +306,14 @@ begunIn g t c = any (λ i. isBegin (recordAt g i) t) c
 
 abbrev pub changesNext : ℕ → ℕ → Record → List ℕ → List ℕ
 changesNext t i r before = if (isBegin r t) [] (if (isChange r t) (i ∷ before) before)
+
+-- at most one for each record
+pub changes-le : (g : List ℕ) (t c : ℕ) → length (changesIn g t c) ≤ c
+unfolding changesIn
+changes-le g t zero = omega arith
+changes-le g t (suc i) = let r = recordAt g i in let h = changes-le g t i in by-bool (isBegin r t)
+    (λ e. rw e (omega arith))
+    (λ e. by-bool (isChange r t) (λ f. rw (e, f) (omega arith)) (λ f. rw (e, f) (omega arith)))
 
 pub changes-next : (g : List ℕ) (t i : ℕ) → changesNext t i (recordAt g i) (changesIn g t i) ≡ changesIn g t (i + 1)
 unfolding changesIn

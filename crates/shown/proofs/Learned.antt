@@ -7,8 +7,8 @@ use mathlib.Core.List.{List}
 use mathlib.Core.Logic.{inl, inr}
 use lib.ListN.{length}
 use lib.Dec.{eqb, ltb}
-use borrow.Author.Tests.{eqb-true, eqb-false, eq-eqb, ne-eqb, ltb-true, lt-ltb, not-true}
-use Rattle.words.specs.Tests.{by-bool, clash, and-split}
+use borrow.Author.Tests.{eqb-true, eqb-false, ne-eqb, ltb-true, lt-ltb, not-true}
+use Rattle.words.specs.Tests.{by-bool, clash, and-split, eqb-swap}
 use Rattle.pages.specs.Geometry.{isRef, isRefAt}
 use Rattle.pages.specs.Objects.{wordOf}
 use Rattle.pages.specs.Soundness.{areaSound}
@@ -26,9 +26,6 @@ use Rattle.shown.proofs.Masks.{object-gain}
 use Rattle.page_laws.specs.SoundFacts.{free-zero}
 use Rattle.views.proofs.Effects.{view-occ, view-word}
 use Rattle.shown.proofs.Areas.{reference}
-
-eqb-swap : (x y : ℕ) → eqb x y ≡ eqb y x
-eqb-swap x y = by-bool (eqb y x) (λ e. rw (e, eqb-true y x e) (eq-eqb x x refl)) (λ e. rw e (ne-eqb x y (λ z. eqb-false y x e (sym z))))
 
 -- one more word: old, what was known before; txn, it is t; some, the object is not nothing; before, a word before names it; next, this
 -- word does; same, it is this word's value

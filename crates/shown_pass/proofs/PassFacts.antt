@@ -15,7 +15,7 @@ use Rattle.calls.specs.Pass.{lowestGrey, locked}
 use Rattle.collector.specs.Bits.{and-false}
 use Rattle.collector.specs.State.{white, grey}
 use Rattle.shown.specs.Tables.{pageBit, colourOf, colourAtObject}
-use Rattle.shown_pass.proofs.Kept.{object-range}
+use Rattle.page_laws.specs.Places.{object-range}
 
 grey-one : (c : ℕ) → colourOf c ≡ grey → c ≡ 1
 grey-one zero h = let z : _≡_ {A = ℕ} 0 1 = cc in absurd (omega arith)

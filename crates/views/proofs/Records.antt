@@ -1,13 +1,13 @@
 -- The objects that an area shows after a sound record took effect, and after it was undone. n is the number of pages. Assumes nothing.
 use Prim.Native.Nat.{ℕ, zero, suc, _*_, _≤_}
 use native.Mathlib.Omega.{arith}
-use mathlib.Core.Path.{_≡_, refl, sym, _∙_}
+use mathlib.Core.Path.{_≡_, refl, _∙_}
 use mathlib.Core.Bool.{Bool, true, false, _&&_, _||_}
 use mathlib.Core.List.{List}
 use lib.ListN.{length}
 use lib.Dec.{eqb}
-use borrow.Author.Tests.{eqb-true, eqb-false, eq-eqb, ne-eqb}
-use Rattle.words.specs.Tests.{if, by-bool}
+use borrow.Author.Tests.{eqb-true}
+use Rattle.words.specs.Tests.{if, by-bool, eqb-swap}
 use Rattle.words.specs.Bits.{bit}
 use Rattle.pages.specs.Geometry.{pageOf, slotOf}
 use Rattle.pages.specs.Objects.{released}
@@ -39,10 +39,6 @@ module _ (n : ℕ) (a : List ℕ) (len : length a ≡ 129 * n) (r : Record) (ok 
   range : namesObject r ≡ true → (1 ≤ r .object) × (r .object ≤ 16 * n)
   range = named-object n r facts
 
-  swap : (x : ℕ) → eqb x (r .object) ≡ eqb (r .object) x
-  swap x = by-bool (eqb x (r .object)) (λ e. rw (e, eqb-true x (r .object) e, eq-eqb (r .object) (r .object) refl) refl)
-      (λ e. rw (e, ne-eqb (r .object) x (λ z. eqb-false x (r .object) e (sym z))) refl)
-
   put-here : (x f v : ℕ) → if (eqb (r .object) x) (put (view a (r .object)) f v) (view a x) ≡ if (eqb (r .object) x) (put (view a x) f v) (view a x)
   put-here x f v = by-bool (eqb (r .object) x) (λ e. rw (e, eqb-true (r .object) x e) refl) (λ e. rw e refl)
 
@@ -57,9 +53,9 @@ module _ (n : ℕ) (a : List ℕ) (len : length a ≡ 129 * n) (r : Record) (ok 
   pub effect-view : (x : ℕ) → view (effect a r) x ≡ applied r x (view a x)
   unfolding effect applied
   effect-view x = elim (kind-of r) [
-    | creates k ↦ (let i = range (rw k refl) in rw k (occupy-view n a len (r .object) (i .0) (i .1) x ∙ rw (swap x) refl))
-    | sets k ↦ (let i = range (rw k refl) in rw k (written-view n a len (r .object) (i .0) (i .1) (r .field) (r .new) (facts .field-below) x ∙ rw (swap x) (put-here x (r .field) (r .new))))
-    | uncreates k ↦ (let i = range (rw k refl) in rw k (release-view n a len (r .object) (i .0) (i .1) x ∙ rw (swap x) (or-right (eqb (r .object) x) (view a x))))
+    | creates k ↦ (let i = range (rw k refl) in rw k (occupy-view n a len (r .object) (i .0) (i .1) x ∙ rw (eqb-swap x (r .object)) refl))
+    | sets k ↦ (let i = range (rw k refl) in rw k (written-view n a len (r .object) (i .0) (i .1) (r .field) (r .new) (facts .field-below) x ∙ rw (eqb-swap x (r .object)) (put-here x (r .field) (r .new))))
+    | uncreates k ↦ (let i = range (rw k refl) in rw k (release-view n a len (r .object) (i .0) (i .1) x ∙ rw (eqb-swap x (r .object)) (or-right (eqb (r .object) x) (view a x))))
     | frees k ↦ rw k (swept-view k x)
     | other p q s t ↦ rw (p, q, s, t) refl
   ]
@@ -71,9 +67,9 @@ module _ (n : ℕ) (a : List ℕ) (len : length a ≡ 129 * n) (r : Record) (ok 
   pub undone-view : (x : ℕ) → view (undone a r) x ≡ unapplied r x (view a x)
   unfolding undone unapplied
   undone-view x = elim (kind-of r) [
-    | creates k ↦ (let i = range (rw k refl) in rw k (release-view n a len (r .object) (i .0) (i .1) x ∙ rw (swap x) refl))
-    | sets k ↦ (let i = range (rw k refl) in rw k (written-view n a len (r .object) (i .0) (i .1) (r .field) (r .old) (facts .field-below) x ∙ rw (swap x) (put-here x (r .field) (r .old))))
-    | uncreates k ↦ (let i = range (rw k refl) in rw k (occupy-view n a len (r .object) (i .0) (i .1) x ∙ rw (swap x) refl))
+    | creates k ↦ (let i = range (rw k refl) in rw k (release-view n a len (r .object) (i .0) (i .1) x ∙ rw (eqb-swap x (r .object)) refl))
+    | sets k ↦ (let i = range (rw k refl) in rw k (written-view n a len (r .object) (i .0) (i .1) (r .field) (r .old) (facts .field-below) x ∙ rw (eqb-swap x (r .object)) (put-here x (r .field) (r .old))))
+    | uncreates k ↦ (let i = range (rw k refl) in rw k (occupy-view n a len (r .object) (i .0) (i .1) x ∙ rw (eqb-swap x (r .object)) refl))
     | frees k ↦ rw k refl
     | other p q s t ↦ rw (p, q, s) refl
   ]

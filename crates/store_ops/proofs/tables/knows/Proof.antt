@@ -2,7 +2,7 @@ use native.Mathlib.Omega.{arith}
 use mathlib.Core.Path.{sym, _∙_}
 use borrow.Author.Tests.{not-true, not-false}
 use Rattle.words.specs.Tests.{if-t, if-f}
-use Rattle.store_ops.specs.Tables.{object-facts}
+use Rattle.page_laws.specs.Places.{object-range}
 use borrow.Author.Needs.{needs}
 use Rattle.store_ops.proofs.tables.knows.Statement.{statement}
 use Rattle.store_ops.proofs.tables.knows.Tie as tie
@@ -20,13 +20,13 @@ add-has : tie.Need-add-has
 add-has c = search needs
 
 sub-has : tie.Need-sub-has
-sub-has c = let h = object-facts (c .before .before .before .args .n) (c .before .before .before .args .o) (sym (c .before .is-object .ensures) ∙ not-false _ (c .if1 .left)) in omega arith
+sub-has c = let h = object-range (c .before .before .before .args .n) (c .before .before .before .args .o) (sym (c .before .is-object .ensures) ∙ not-false _ (c .if1 .left)) in omega arith
 
 add-has-2 : tie.Need-add-has-2
 add-has-2 c = search needs
 
 has-requires : tie.Need-has-requires
-has-requires c κs = let h = object-facts (c .before .before .before .args .n) (c .before .before .before .args .o) (sym (c .before .is-object .ensures) ∙ not-false _ (c .if1 .left)) in omega arith
+has-requires c κs = let h = object-range (c .before .before .before .args .n) (c .before .before .before .args .o) (sym (c .before .is-object .ensures) ∙ not-false _ (c .if1 .left)) in omega arith
 
 returns-2 : tie.Need-returns-2
 returns-2 c = c .has .ensures ∙ sym (if-t _ _ _ (sym (c .before .before .is-object .ensures) ∙ not-false _ (c .before .if1 .left)))

@@ -1,7 +1,8 @@
 use native.Mathlib.Omega.{arith}
 use mathlib.Core.Path.{sym, _∙_}
 use borrow.Author.Tests.{not-true, not-false}
-use Rattle.store_ops.specs.Tables.{object-facts, greyed-outside, greyed-white, greyed-marked}
+use Rattle.page_laws.specs.Places.{object-range}
+use Rattle.store_ops.specs.Tables.{greyed-outside, greyed-white, greyed-marked}
 use borrow.Author.Needs.{needs}
 use Rattle.store_ops.proofs.tables.turn_grey.Statement.{statement}
 use Rattle.store_ops.proofs.tables.turn_grey.Tie as tie
@@ -19,7 +20,7 @@ add-i : tie.Need-add-i
 add-i c = search needs
 
 sub-i : tie.Need-sub-i
-sub-i c = let h = object-facts (c .before .before .before .args .n) (c .before .before .before .args .o) (sym (c .before .is-object .ensures) ∙ not-false _ (c .if1 .left)) in omega arith
+sub-i c = let h = object-range (c .before .before .before .args .n) (c .before .before .before .args .o) (sym (c .before .is-object .ensures) ∙ not-false _ (c .if1 .left)) in omega arith
 
 add-i-2 : tie.Need-add-i-2
 add-i-2 c = search needs
@@ -28,13 +29,13 @@ mul-if2 : tie.Need-mul-if2
 mul-if2 c = search needs
 
 slice-read-if2 : tie.Need-slice-read-if2
-slice-read-if2 c = let h = object-facts (c .before .before .before .before .args .n) (c .before .before .before .before .args .o) (sym (c .before .before .is-object .ensures) ∙ not-false _ (c .before .if1 .left)) in omega arith
+slice-read-if2 c = let h = object-range (c .before .before .before .before .args .n) (c .before .before .before .before .args .o) (sym (c .before .before .is-object .ensures) ∙ not-false _ (c .before .if1 .left)) in omega arith
 
 mul-w : tie.Need-mul-w
 mul-w c = search needs
 
 slice-write-w : tie.Need-slice-write-w
-slice-write-w c = let h = object-facts (c .before .before .before .before .before .args .n) (c .before .before .before .before .before .args .o) (sym (c .before .before .before .is-object .ensures) ∙ not-false _ (c .before .before .if1 .left)) in omega arith
+slice-write-w c = let h = object-range (c .before .before .before .before .before .args .n) (c .before .before .before .before .before .args .o) (sym (c .before .before .before .is-object .ensures) ∙ not-false _ (c .before .before .if1 .left)) in omega arith
 
 same-length : tie.Need-same-length
 same-length c = search needs
