@@ -1,5 +1,5 @@
 -- The check of an abort, the restored copies and its outcome, of the lists that the code has. n is the number of pages. Assumes nothing.
-use Prim.Native.Nat.{ℕ, zero, suc, _+_, _*_, _/_, _<_, _≤_}
+use Prim.Native.Nat.{ℕ, _+_, _*_, _/_, _<_, _≤_}
 use mathlib.Core.Path.{_≡_, refl, sym, ap, _∙_}
 use mathlib.Core.Bool.{true, false}
 use mathlib.Core.List.{List, [], _∷_}
@@ -9,10 +9,10 @@ use native.Mathlib.Omega.{arith}
 use borrow.Author.Tests.{lt-ltb, le-ltb}
 use Rattle.words.specs.Tests.{if, by-bool}
 use Rattle.pages.specs.Objects.{copiedPage}
-use Rattle.records.specs.Records.{recordAt, recorded, abortedOf, isBegin, isChange}
+use Rattle.records.specs.Records.{recordAt, recorded, abortedOf}
 use Rattle.records.specs.Effects.{effect, undoing}
-use Rattle.records.specs.Changes.{changesIn, changesLeft}
-use Rattle.record_laws.specs.RecordLaws.{begunIn}
+use Rattle.records.specs.Changes.{changesLeft}
+use Rattle.record_laws.specs.RecordLaws.{begunIn, changes-le}
 use Rattle.areas.specs.declared.Refusal.the-variants.{OutOfRange, WrongState, LogFull}
 use Rattle.areas.specs.declared.Check.{Check}
 use Rattle.areas.specs.declared.Check.the-variants.{Pass, Refuse}
@@ -27,17 +27,9 @@ use Rattle.acceptance.specs.Transactions.{abort-facts}
 use Rattle.store_ops.specs.Logs.{counted, open-kept}
 use Rattle.aborts.specs.Rolling.{Undoable}
 
--- no more changes than records
-few-changes : (g : List ℕ) (t c : ℕ) → length (changesIn g t c) ≤ c
-unfolding changesIn
-few-changes g t zero = omega arith
-few-changes g t (suc i) = let h = few-changes g t i in by-bool (isBegin (recordAt g i) t)
-    (λ e. rw e (omega arith))
-    (λ e. by-bool (isChange (recordAt g i) t) (λ d. rw (e, d) (omega arith)) (λ d. rw (e, d) (omega arith)))
-
 few-left : (w g : List ℕ) (c t : ℕ) → length (changesLeft w g c t) ≤ c
 unfolding changesLeft
-few-left w g c t = by-bool (begunIn g t c) (λ e. rw e (few-changes g t c)) (λ e. rw e (omega arith))
+few-left w g c t = by-bool (begunIn g t c) (λ e. rw e (changes-le g t c)) (λ e. rw e (omega arith))
 
 -- the check, of the lists that it reads
 pub abort-as : (s c r g k w : List ℕ) (t : ℕ) {x : Check} → x ≡ abortCheck (areas [] [] [] g k w) t → x ≡ abortCheck (areas s c r g k w) t

@@ -16,7 +16,7 @@ use Rattle.record_laws.specs.RecordLaws.{Agree, begunIn, recorded-other, record
 use Rattle.areas.specs.Areas.{Areas, areas, appended}
 use Rattle.calls.specs.Transactions.{rolledBack}
 use Rattle.store_ops.specs.Logs.{Kept, Fits}
-use Rattle.store_ops.specs.Kinds.{undoing-sound, aborted-sound}
+use Rattle.record_laws.specs.SoundRecords.{undoing-sound, aborted-sound}
 
 -- the areas once record r is undone, where it is a change of t
 abbrev pub undoneBy : Record → ℕ → Areas → Areas

@@ -1,10 +1,9 @@
 -- What a create, a set and a sweep make of an object and its tag, as the collector's machine says it. Assumes nothing.
 use Prim.Native.Nat.{ℕ}
-use mathlib.Core.Path.{_≡_, refl, sym}
+use mathlib.Core.Path.{_≡_, refl}
 use mathlib.Core.Bool.{Bool, true, false, _&&_, cond}
 use lib.Dec.{eqb}
-use borrow.Author.Tests.{eqb-true, eqb-false, eq-eqb, ne-eqb}
-use Rattle.words.specs.Tests.{if, by-bool}
+use Rattle.words.specs.Tests.{if, by-bool, eqb-swap}
 use Rattle.words.specs.Bits.{bit}
 use Rattle.pages.specs.Geometry.{pageOf, slotOf}
 use Rattle.records.specs.Records.{createOf, setOf, sweepOf}
@@ -31,17 +30,14 @@ writtenAt m f w v = record { object = put (v .object) f w; tag = stamp (v .tag) 
 abbrev pub freedAt : ℕ → Seen
 freedAt m = record { object = blank; tag = bornAt m }
 
-turned : (o x : ℕ) → eqb o x ≡ eqb x o
-turned o x = by-bool (eqb x o) (λ e. rw (e, eq-eqb o x (sym (eqb-true x o e)))) (λ e. rw (e, ne-eqb o x (λ z. eqb-false x o e (sym z))))
-
 module _ (m x : ℕ) (v : Seen) where
   pub create-acts : (t o : ℕ) → acted m (createOf t o) x v ≡ if (eqb x o) (createdAt m) v
   unfolding applied tagged
-  create-acts t o = rw (turned o x) (by-bool (eqb x o) (λ e. rw e) (λ e. rw e))
+  create-acts t o = rw (eqb-swap o x) (by-bool (eqb x o) (λ e. rw e) (λ e. rw e))
 
   pub set-acts : (t o f a w : ℕ) → acted m (setOf t o f a w) x v ≡ if (eqb x o) (writtenAt m f w v) v
   unfolding applied tagged
-  set-acts t o f a w = rw (turned o x) (by-bool (eqb x o) (λ e. rw e) (λ e. rw e))
+  set-acts t o f a w = rw (eqb-swap o x) (by-bool (eqb x o) (λ e. rw e) (λ e. rw e))
 
   pub sweep-acts : (p w : ℕ) → acted m (sweepOf p w) x v ≡ if (eqb p (pageOf x) && bit w (slotOf x)) (freedAt m) v
   unfolding applied tagged

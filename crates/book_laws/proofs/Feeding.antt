@@ -10,8 +10,8 @@ use Rattle.words.specs.Tests.{or-r}
 use Rattle.records.specs.declared.Record.{Record}
 use Rattle.records.specs.Records.{isSweep, beginOf, sweepOf}
 use Rattle.book.specs.Lines.{Line, line, hasCommit}
-use Rattle.book.specs.Books.{Book, runs, countsCommitted, countsFull, fullLines}
-use Rattle.book.specs.Feeding.{adds, learns, begins}
+use Rattle.book.specs.Books.{Book, runs, countsCommitted, countsFull}
+use Rattle.book.specs.Feeding.{adds, begins}
 use Rattle.book_laws.specs.Seen.{counted, acted, seenCommitted, seenFull}
 use Rattle.book_laws.specs.After.{sweptBy}
 use Rattle.book_laws.specs.Keeping.{Runs, BookInv}
@@ -64,9 +64,3 @@ module _ (b : Book) (p m : ℕ) where
   unfolding hasCommit runs
   sweep-full x = seen-on (countsFull (sweptBy b p m)) (line (sweepOf p m) 0) (b .lines) x refl
       ∙ ap (acted (suc (length (b .lines))) (sweepOf p m) x) (seen-agree (countsFull (sweptBy b p m)) (countsFull b) (b .lines) x (λ l j e. refl))
-
--- what adds no line: the full lines are the same, and so is what they show
-module _ (b : Book) where
-  pub learn-full : (t : ℕ) (f : ℕ → Bool) → fullLines (learns b t f) ≡ fullLines b
-  unfolding fullLines runs
-  learn-full t f = refl

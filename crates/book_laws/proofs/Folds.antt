@@ -16,8 +16,9 @@ use Rattle.records.specs.Soundness.{recordSound}
 use Rattle.collector.specs.Objects.{blank}
 use Rattle.views.specs.View.{view, names, applied}
 use Rattle.views.proofs.Effects.{obj-ext, view-by, occupy-view}
-use Rattle.views.proofs.Slots.{length-taken}
-use Rattle.views.proofs.Records.{effect-view, length-effect}
+use Rattle.page_laws.specs.ViewLaws.{length-taken}
+use Rattle.record_laws.specs.EffectLaws.{length-effect}
+use Rattle.views.proofs.Records.{effect-view}
 use Rattle.book.specs.Lines.{Line, isLeft, filtered, pagesAfter}
 use Rattle.book.specs.Pointers.{sweeps, makesOrFrees}
 use Rattle.book_laws.specs.Seen.{touches, tagged, Seen, first, acted, seen}
@@ -94,16 +95,16 @@ seen-struck c i [] x = refl
 seen-struck c i (l ∷ ls) x = rw (length-struck i ls, seen-struck c i ls x, strike-entry i l)
 
 -- the pages of a formatted store
-abbrev zeros : ℕ → List ℕ
+abbrev pub zeros : ℕ → List ℕ
 zeros n = replicate n 0
 
-none-at : (n i : ℕ) → getD (zeros n) i 0 ≡ 0
-none-at n i = elim (decLt i n) [ yes l ↦ getD-replicate n i 0 0 l | no l ↦ List·getD-eq-default (zeros n) 0 (rw (length-replicate {A = ℕ} n 0) (omega arith)) ]
+pub zero-at : (n i : ℕ) → getD (zeros n) i 0 ≡ 0
+zero-at n i = elim (decLt i n) [ yes l ↦ getD-replicate n i 0 0 l | no l ↦ List·getD-eq-default (zeros n) 0 (rw (length-replicate {A = ℕ} n 0) (omega arith)) ]
 
 zeros-view : (n x : ℕ) → view (zeros n) x ≡ blank
 unfolding blank
-zeros-view n x = view-by (zeros n) (λ y. blank) (λ y h. obj-ext _ _ (ap (λ (m : ℕ). bit m (slotOf y)) (none-at n (pageAt (pageOf y))) ∙ bit-none (slotOf y))
-    (λ f. by-bool (ltb f 8) (λ e. rw (e, none-at n (slotAt (pageOf y) (slotOf y) f))) (λ e. rw e))) refl x
+zeros-view n x = view-by (zeros n) (λ y. blank) (λ y h. obj-ext _ _ (ap (λ (m : ℕ). bit m (slotOf y)) (zero-at n (pageAt (pageOf y))) ∙ bit-none (slotOf y))
+    (λ f. by-bool (ltb f 8) (λ e. rw (e, zero-at n (slotAt (pageOf y) (slotOf y) f))) (λ e. rw e))) refl x
 
 module _ (n : ℕ) (some : 1 ≤ n) where
   zeros-length : length (zeros (129 * n)) ≡ 129 * n
@@ -111,7 +112,7 @@ module _ (n : ℕ) (some : 1 ≤ n) where
 
   pub formatted-length : length (formattedPages n) ≡ 129 * n
   unfolding formattedPages
-  formatted-length = length-taken n (zeros (129 * n)) zeros-length 0 0 (omega arith) (omega arith) ∙ zeros-length
+  formatted-length = length-taken (zeros (129 * n)) 0 0 ∙ zeros-length
 
   pub formatted-view : (x : ℕ) → view (formattedPages n) x ≡ first x .object
   unfolding formattedPages
@@ -123,7 +124,7 @@ module _ (n : ℕ) (some : 1 ≤ n) where
     unfolding pagesAfter filtered
     after-length [] h = formatted-length
     after-length (l ∷ ls) h = let ih = after-length ls (λ m i. h m (later i)) in by-bool (c l)
-        (λ e. rw e (length-effect n (pagesAfter n (filtered c ls)) ih (l .entry) (h l here e) ∙ ih))
+        (λ e. rw e (length-effect (pagesAfter n (filtered c ls)) (l .entry) ∙ ih))
         (λ e. rw e ih)
 
     pub after-view : (ls : List Line) → ((l : Line) → In l ls → c l ≡ true → recordSound n (l .entry) ≡ true) → (x : ℕ)

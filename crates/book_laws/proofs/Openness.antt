@@ -2,7 +2,7 @@
 use Prim.Native.Nat.{ℕ, _+_}
 use native.Mathlib.Omega.{arith}
 use mathlib.Core.Path.{_≡_, refl, sym}
-use mathlib.Core.Bool.{Bool, true, false, not, _&&_, _||_}
+use mathlib.Core.Bool.{true, false, not, _&&_, _||_}
 use mathlib.Core.List.{List}
 use mathlib.Core.Logic.{_⊎_, inl, inr}
 use lib.Dec.{eqb}
@@ -13,7 +13,7 @@ use Rattle.records.specs.Records.{beginOf, commitOf, abortedOf, sweepOf}
 use Rattle.records.specs.Effects.{undoing}
 use Rattle.book.specs.Lines.{Line, line, isLeft}
 use Rattle.book.specs.Books.{Book}
-use Rattle.book.specs.Feeding.{withLines, adds, learns, begins, ends, forced}
+use Rattle.book.specs.Feeding.{withLines, adds, begins, ends}
 use Rattle.book_laws.specs.Striking.{struckAll}
 use Rattle.book_laws.specs.After.{committedBy, undoneBy, abortedBy, sweptBy}
 use Rattle.book_laws.specs.Keeping.{In, Each, Runs, BookInv, anyLine, openly}
@@ -37,14 +37,6 @@ open-intro b u x r l j e o = rw (ne-eqb (b .running u) 0 r)
 
 -- what adds no line
 module _ (b : Book) (u x : ℕ) where
-  pub open-learn : (t : ℕ) (f : ℕ → Bool) → openly (learns b t f) u x ≡ openly b u x
-  unfolding openly
-  open-learn t f = refl
-
-  pub open-force : openly (forced b) u x ≡ openly b u x
-  unfolding openly
-  open-force = refl
-
   pub open-sweep : (p m : ℕ) → openly (sweptBy b p m) u x ≡ true → openly b u x ≡ true
   open-sweep p m h = open-elim (sweptBy b p m) u x h (λ r.
       each-cons {P = λ l. isLeft (b .running u) l ≡ true → l .entry .object ≡ x → openly b u x ≡ true}

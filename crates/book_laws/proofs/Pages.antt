@@ -2,30 +2,23 @@
 -- Assumes nothing.
 use Prim.Native.Nat.{ℕ, _*_, _≤_}
 use mathlib.Core.Path.{_≡_, refl, sym, ap, _∙_}
-use mathlib.Core.Bool.{Bool, true}
+use mathlib.Core.Bool.{Bool}
 use mathlib.Core.List.{List, [], _∷_}
 use lib.ListN.{length}
 use Rattle.words.specs.Tests.{by-bool}
 use Rattle.views.specs.View.{view}
 use Rattle.book.specs.Lines.{Line, filtered, pagesAfter}
 use Rattle.book.specs.Books.{Stage, Book, countsCommitted, countsFull, committedLines, fullLines, committedPages, fullPages, surviving, stopped}
-use Rattle.book.specs.Pointers.{unbroken}
 use Rattle.book_laws.specs.Seen.{counted, committedOf, seen, seenCommitted, seenFull, made}
 use Rattle.book_laws.specs.Keeping.{SoundLines}
 use Rattle.book_laws.proofs.Folds.{seen-agree, after-length, after-view}
 use Rattle.book_laws.proofs.Stops.{stableLines, stop-committed, stop-counts}
-use Rattle.book_laws.proofs.Tags.{tag-unbroken}
 
 pub committed-of : (b : Book) → committedLines b ≡ committedOf (b .lines)
 unfolding committedLines committedOf
 committed-of b = refl
 
 module _ (n : ℕ) (some : 1 ≤ n) where
-  -- of a list of lines by itself
-  pub state-view : (ls : List Line) → SoundLines n ls → (x : ℕ) → view (pagesAfter n (committedOf ls)) x ≡ seen (counted ls) ls x .object
-  unfolding committedOf
-  state-view ls h x = after-view n some (counted ls) ls (λ l j e. h l j) x
-
   pub state-length : (ls : List Line) → SoundLines n ls → length (pagesAfter n (committedOf ls)) ≡ 129 * n
   unfolding committedOf
   state-length ls h = after-length n some (counted ls) ls (λ l j e. h l j)
@@ -56,12 +49,6 @@ seen-made c (l ∷ ls) x = by-bool (c l) (λ e. rw (e, made, seen-made c ls x)) 
 module _ (c d : Line → Bool) (ls ms : List Line) (same : filtered c ls ≡ filtered d ms) where
   pub objects-by-lines : (x : ℕ) → seen c ls x .object ≡ seen d ms x .object
   objects-by-lines x = seen-made c ls x ∙ ap (λ (k : List Line). made k x) same ∙ sym (seen-made d ms x)
-
--- a pointer is unbroken in either state where its target's tag is not younger than its word's
-module _ (b : Book) (o f x : ℕ) where
-  pub committed-unbroken : seenCommitted b x .tag .born ≤ seenCommitted b o .tag .time f → unbroken (committedLines b) o f x ≡ true
-  unfolding committedLines
-  committed-unbroken h = tag-unbroken (countsCommitted b) (b .lines) o f x h
 
 -- after a stop: the objects of the stable lines' committed state, and their tags' order; the full pages are the committed state
 module _ (g : Stage) (b : Book) where

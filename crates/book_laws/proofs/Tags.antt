@@ -1,13 +1,12 @@
 -- Tags: a pointer is unbroken where its target is no younger than its word. Assumes nothing.
 use Prim.Native.Nat.{ℕ, suc, _≤_}
 use native.Mathlib.Omega.{arith}
-use mathlib.Core.Path.{_≡_, refl, sym, ap, _∙_}
+use mathlib.Core.Path.{_≡_, refl, ap, _∙_}
 use mathlib.Core.Bool.{Bool, true, false, _&&_, cond}
 use mathlib.Core.List.{List, [], _∷_}
 use lib.ListN.{length}
 use lib.Dec.{eqb}
-use borrow.Author.Tests.{eqb-true, eqb-false, eq-eqb, ne-eqb}
-use Rattle.words.specs.Tests.{if, by-bool, clash, or-true, or-false}
+use Rattle.words.specs.Tests.{if, by-bool, clash, or-true, or-false, eqb-swap}
 use Rattle.records.specs.declared.Record.{Record}
 use Rattle.collector.specs.Objects.{Tag, bornAt, stamp}
 use Rattle.book.specs.Lines.{Line, filtered}
@@ -25,16 +24,12 @@ time-after m r x f a = by-bool (makesOrFrees r x)
     (λ e. rw (e, or-true (eqb (r .kind) 3 && eqb (r .object) x && eqb (r .field) f)))
     (λ e. rw (e, or-false (eqb (r .kind) 3 && eqb (r .object) x && eqb (r .field) f)) (set (eqb (r .kind) 3 && eqb (r .object) x)))
   where
-    turned : eqb f (r .field) ≡ eqb (r .field) f
-    turned = by-bool (eqb f (r .field)) (λ e. rw (e, eq-eqb (r .field) f (sym (eqb-true f (r .field) e))))
-        (λ e. rw (e, ne-eqb (r .field) f (λ z. eqb-false f (r .field) e (sym z))))
-
     pick : (b : Bool) (u v : ℕ) → cond b u v ≡ if b u v
     pick true u v = refl
     pick false u v = refl
 
     set : (b : Bool) → if b (stamp a (r .field) m) a .time f ≡ if (b && eqb (r .field) f) m (a .time f)
-    set true = ap (λ (b : Bool). cond b m (a .time f)) turned ∙ pick (eqb (r .field) f) m (a .time f)
+    set true = ap (λ (b : Bool). cond b m (a .time f)) (eqb-swap f (r .field)) ∙ pick (eqb (r .field) f) m (a .time f)
     set false = refl
 
 module _ (c : Line → Bool) where

@@ -1,3 +1,1 @@
-pub fn transactions() -> u32 {
-    16
-}
+// Laws about the machine alone.

@@ -6,7 +6,6 @@ use mathlib.Core.Bool.{Bool, true, false}
 use mathlib.Core.List.{List, [], _∷_}
 use lib.ListN.{length, take, drop}
 use lib.Seq.{getD-set-other}
-use borrow.Author.Tests.{lt-ltb}
 use Rattle.words.specs.Tests.{by-bool, clash}
 use Rattle.words.specs.Bits.{bit, withoutBit}
 use Rattle.records.specs.declared.Record.{Record}
@@ -52,7 +51,8 @@ use Rattle.book_laws.proofs.Ends.{unended}
 use Rattle.book_laws.proofs.Undoing.{left-length}
 use Rattle.book_laws.proofs.Committed.{abort-part, abort-before}
 use Rattle.book_laws.proofs.Changes.{left-since, abort-entries, abort-length}
-use Rattle.book_laws.proofs.Soundness.{aborted-sound, undone-sound}
+use Rattle.record_laws.specs.SoundRecords.{aborted-sound}
+use Rattle.book_laws.proofs.Soundness.{undone-sound}
 use Rattle.book_laws.proofs.Ending.{abort-committed, abort-full}
 use Rattle.book_laws.proofs.Finishing.{abort-inv}
 use Rattle.book_laws.proofs.Openness as Openness
@@ -197,7 +197,7 @@ module _ (n : ℕ) (some : 1 ≤ n) (s : Areas) (b : Book) (i : OpenInv n s b) (
   mixed x = picked (locksOf (s .work) n .wr) t (seenCommitted b) (seenFull b) x (seenFull b′ x) (abort-full b (i .book) (locksOf (s .work) n .wr) (i .writers) t run x)
 
   sound-after : SoundLines n (b′ .lines)
-  sound-after = each-cons (aborted-sound n t (lt-ltb t 16 (f .txn))) (undone-sound n (b .running t) (b .lines) (i .sound))
+  sound-after = each-cons (aborted-sound n t (f .txn)) (undone-sound n (b .running t) (b .lines) (i .sound))
 
   -- the collector's state then
   abbrev st : St

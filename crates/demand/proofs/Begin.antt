@@ -8,7 +8,7 @@ use mathlib.Core.List.{List, _∷_}
 use mathlib.Core.Logic.{inl, inr}
 use lib.ListN.{length}
 use lib.Dec.{eqb}
-use borrow.Author.Tests.{eqb-true, eq-eqb, lt-ltb}
+use borrow.Author.Tests.{eqb-true, eq-eqb}
 use Rattle.words.specs.Tests.{by-bool, clash}
 use Rattle.words.specs.Bits.{bit-with}
 use Rattle.pages.specs.Geometry.{root}
@@ -41,7 +41,7 @@ use Rattle.recovery.proofs.Invariant as Recovery
 use Rattle.recovery.proofs.Steps.{logOf, log-begin}
 use Rattle.book_laws.specs.Seen.{Seen, seenCommitted, seenFull}
 use Rattle.book_laws.specs.Keeping.{Runs, Writers}
-use Rattle.book_laws.proofs.Soundness.{begin-sound}
+use Rattle.record_laws.specs.SoundRecords.{begin-sound}
 use Rattle.book_laws.proofs.Feeding.{begin-committed, begin-full}
 use Rattle.book_laws.proofs.Invariant.{begin-inv}
 use Rattle.book_laws.proofs.Openness as Openness
@@ -127,7 +127,7 @@ module _ (n : ℕ) (some : 1 ≤ n) (s : Areas) (b : Book) (i : OpenInv n s b) (
     lines = refl;
     stable = refl;
     room = let q = f .room in omega arith;
-    ok = begin-sound n t (lt-ltb t 16 (f .txn));
+    ok = begin-sound n t (f .txn);
     order = ap not (i .log .open-ones t (f .txn) ∙ act);
     still = refl;
     full = λ x. ap (λ (v : Seen). v .object) (full-same x);

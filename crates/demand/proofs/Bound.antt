@@ -1,26 +1,20 @@
 -- A record that begins or commits a transaction, with its line on top: it changes no page. n is the number of pages. Assumes nothing.
-use Prim.Native.Nat.{ℕ, _+_, _*_, _≤_, _<_}
-use native.Mathlib.Omega.{arith}
-use mathlib.Core.Path.{_≡_, refl, sym, ap, _∙_}
+use Prim.Native.Nat.{ℕ, _+_, _≤_, _<_}
+use mathlib.Core.Path.{_≡_, refl, sym, _∙_}
 use mathlib.Core.Bool.{true}
 use mathlib.Core.List.{List, [], _∷_}
-use lib.ListN.{length}
-use lib.Seq.{getD-set-same, getD-set-other}
 use Rattle.words.specs.Bits.{bit}
 use Rattle.records.specs.declared.Record.{Record}
-use Rattle.records.specs.Records.{recorded}
 use Rattle.records.specs.Effects.{effect}
 use Rattle.records.specs.Soundness.{recordSound}
 use Rattle.records.specs.Order.{openIn, openNext, inOrder}
-use Rattle.record_laws.specs.RecordLaws.{open-append}
-use Rattle.areas.specs.Areas.{Areas, receivedCount, stableCount, withWork, appended}
+use Rattle.areas.specs.Areas.{Areas, receivedCount, withWork, appended}
 use Rattle.areas.specs.Entry.{records}
 use Rattle.acceptance.specs.Entered.{Open}
 use Rattle.book.specs.Lines.{Line}
 use Rattle.book.specs.Books.{Book, fullPages}
 use Rattle.collector.proofs.Invariant as Collector
 use Rattle.shown.specs.Tables.{locksOf}
-use Rattle.recovery.specs.Shapes.{shapes, recs}
 use Rattle.recovery.proofs.Invariant as Recovery
 use Rattle.recovery.proofs.Decided.{same-longer}
 use Rattle.recovery.proofs.Maps.{small-sound}
@@ -28,8 +22,8 @@ use Rattle.recovery.proofs.Steps.{logOf}
 use Rattle.book_laws.specs.Seen.{seenCommitted, seenFull}
 use Rattle.book_laws.specs.Keeping.{SoundLines}
 use Rattle.book_laws.proofs.Members.{each-cons}
-use Rattle.demand.proofs.State.{machine, received, logged, LogInv, OpenInv}
-use Rattle.demand.proofs.OneRecord.{records-more, Appends, log-after}
+use Rattle.demand.proofs.State.{machine, received, LogInv, OpenInv}
+use Rattle.demand.proofs.OneRecord.{Appends, log-after}
 use Rattle.demand.proofs.Change.{full-shown}
 use Rattle.demand.proofs.Shared.{full-ext}
 
@@ -57,44 +51,21 @@ module _ (n : ℕ) (some : 1 ≤ n) (s : Areas) (b : Book) (i : OpenInv n s b) (
   bound-full = c .still ∙ full-ext n some b′ bound-sound (s .received) (h .sized .received-len) (small-sound n (s .received) (h .ranged .received-sound))
       (λ x. sym (full-shown n some s b i x) ∙ sym (c .full x))
 
-  long : 6 * receivedCount s + 6 ≤ length (s .log)
-  long = let e = h .sized .log-len in let q = c .room in omega arith
-
-  count : receivedCount s′ ≡ receivedCount s + 1
-  unfolding appended
-  count = getD-set-same (s .counts) 0 (receivedCount s + 1) 0 (let e = h .sized .counts-len in omega arith)
-
-  stable-count : stableCount s′ ≡ stableCount s
-  unfolding appended
-  stable-count = getD-set-other (s .counts) 0 1 (receivedCount s + 1) 0 (λ z. omega arith)
-
   appends : Appends n s b r l s′ b′
   unfolding appended
   appends = record {
     entry = c .entry;
     log = refl;
-    count = count;
-    stable-count = stable-count;
+    counts = refl;
     stored = refl;
     lines = c .lines;
     stable = c .stable;
-    long = long;
+    room = c .room;
     ok = c .ok;
     order = c .order;
   }
 
-  received-more : received s′ ≡ r ∷ received s
-  unfolding appended
-  received-more = ap (recs (recorded (s .log) (receivedCount s) r)) count ∙ records-more (s .log) (receivedCount s) r long
-
-  open-after : (u : ℕ) → u < 16 → bit (openIn (s′ .log) (receivedCount s′)) u ≡ locksOf w n .act u
-  unfolding appended
-  open-after u k = ap (λ (m : ℕ). bit m u) (ap (openIn (recorded (s .log) (receivedCount s) r)) count ∙ open-append (s .log) (receivedCount s) r long) ∙ c .opens u k
-
   pub bound-log : Recovery.Inv (i .base) (logOf (λ x. seenFull b′ x .object) (λ x. seenCommitted b′ x .object) (locksOf w n .wr) (locksOf w n .act) (r ∷ received s))
       → Collector.Inv (machine n s′ b′) → LogInv n s′ b′ (i .base)
   unfolding appended
-  bound-log j m = log-after n some s b (i .base) (i .log) r l s′ b′ appends
-      (Recovery.carried (i .base) (logOf (λ x. seenFull b′ x .object) (λ x. seenCommitted b′ x .object) (locksOf w n .wr) (locksOf w n .act) (r ∷ received s)) (logged n s′ b′)
-      (λ x. refl) (λ x. refl) (λ u p. refl) (λ u. refl) (sym (ap shapes received-more)) j)
-      m bound-sound open-after (rw received-more (same-longer (r ∷ []) (received s) (i .log .copies)))
+  bound-log j m = log-after n some s b (i .base) (i .log) h r l s′ b′ appends j m bound-sound (c .opens) (same-longer (r ∷ []) (received s) (i .log .copies))

@@ -1,23 +1,21 @@
 -- A create or a set of a running transaction: the book, the log and the invariant after it. n is the number of pages. Assumes nothing.
-use Prim.Native.Nat.{ℕ, suc, _+_, _*_, _≤_, _<_}
+use Prim.Native.Nat.{ℕ, suc, _≤_, _<_}
 use native.Mathlib.Omega.{arith}
 use mathlib.Core.Path.{_≡_, refl, sym, ap, _∙_}
 use mathlib.Core.Bool.{Bool, true, false}
 use mathlib.Core.List.{List, [], _∷_}
 use mathlib.Core.Logic.{inl, inr}
 use lib.ListN.{length}
-use lib.Seq.{getD-set-same, getD-set-other}
 use lib.Dec.{eqb}
 use Rattle.words.specs.Tests.{or-r}
 use Rattle.words.specs.Bits.{bit}
 use Rattle.pages.specs.Geometry as Geometry
 use Rattle.records.specs.declared.Record.{Record}
-use Rattle.records.specs.Records.{recorded, isSweep}
+use Rattle.records.specs.Records.{isSweep}
 use Rattle.records.specs.Effects.{effect}
 use Rattle.records.specs.Soundness.{recordSound, namesObject}
 use Rattle.records.specs.Order.{openIn, openNext, inOrder}
-use Rattle.record_laws.specs.RecordLaws.{open-append}
-use Rattle.areas.specs.Areas.{Areas, receivedCount, stableCount, withWork, appended}
+use Rattle.areas.specs.Areas.{Areas, receivedCount, withWork, appended}
 use Rattle.areas.specs.Layout.{unflushedAt, workWords}
 use Rattle.areas.specs.Tables.{isActive}
 use Rattle.acceptance.specs.Entered.{Open}
@@ -32,7 +30,6 @@ use Rattle.shown.specs.Tables.{locksOf, tablesOf}
 use Rattle.shown.proofs.Frames.{Beside, locks-kept, reopening-kept}
 use Rattle.shown.proofs.Facts.{act-is}
 use Rattle.shown.proofs.Shows.{Shows}
-use Rattle.recovery.specs.Shapes.{shapes, recs}
 use Rattle.recovery.proofs.Invariant as Recovery
 use Rattle.recovery.proofs.Decided.{SameCells, same-longer}
 use Rattle.recovery.proofs.Reversal.{Change}
@@ -45,8 +42,8 @@ use Rattle.book_laws.proofs.Running.{runs-it}
 use Rattle.book_laws.proofs.Feeding.{adds-committed, adds-full}
 use Rattle.book_laws.proofs.Openness.{open-adds}
 use Rattle.book_laws.proofs.Pages.{full-view}
-use Rattle.demand.proofs.State.{machine, received, logged, OpenInv}
-use Rattle.demand.proofs.OneRecord.{records-more, Appends, log-after}
+use Rattle.demand.proofs.State.{machine, received, OpenInv}
+use Rattle.demand.proofs.OneRecord.{Appends, log-after}
 
 -- the machine shows the working words
 pub machine-shows : (n : ℕ) (s : Areas) (b : Book) → Shows (s .work) n (machine n s b)
@@ -170,17 +167,6 @@ module _ (n : ℕ) (some : 1 ≤ n) (s : Areas) (b : Book) (i : OpenInv n s b) (
       tags = λ z. record { cmtTag = λ x. committed-same x z .tag; recTag = λ x. sees x z .tag; now = suc (suc (length (b .lines))) }
 
   -- the log's part
-  long : 6 * receivedCount s + 6 ≤ length (s .log)
-  long = let e = h .sized .log-len in let q = c .room in omega arith
-
-  count : receivedCount s′ ≡ receivedCount s + 1
-  unfolding appended
-  count = getD-set-same (s .counts) 0 (receivedCount s + 1) 0 (let e = h .sized .counts-len in omega arith)
-
-  stable-count : stableCount s′ ≡ stableCount s
-  unfolding appended
-  stable-count = getD-set-other (s .counts) 0 1 (receivedCount s + 1) 0 (λ z. omega arith)
-
   order : inOrder (openIn (s .log) (receivedCount s)) r ≡ true
   order = change-order (openIn (s .log) (receivedCount s)) r (c .kind) (rw (c .txn) (i .log .open-ones t (c .small) ∙ act))
 
@@ -189,38 +175,30 @@ module _ (n : ℕ) (some : 1 ≤ n) (s : Areas) (b : Book) (i : OpenInv n s b) (
   appends = record {
     entry = refl;
     log = refl;
-    count = count;
-    stable-count = stable-count;
+    counts = refl;
     stored = refl;
     lines = refl;
     stable = refl;
-    long = long;
+    room = let q = c .room in omega arith;
     ok = c .ok;
     order = order;
   }
 
-  received-more : received s′ ≡ r ∷ received s
-  unfolding appended
-  received-more = ap (recs (recorded (s .log) (receivedCount s) r)) count ∙ records-more (s .log) (receivedCount s) r long
+  open-after : (u : ℕ) → u < 16 → bit (openNext (openIn (s .log) (receivedCount s)) r) u ≡ locksOf w n .act u
+  open-after u l = ap (λ (m : ℕ). bit m u) (change-open (openIn (s .log) (receivedCount s)) r (c .kind)) ∙ i .log .open-ones u l ∙ sym (act-same u)
 
-  open-after : (u : ℕ) → u < 16 → bit (openIn (s′ .log) (receivedCount s′)) u ≡ locksOf w n .act u
-  unfolding appended
-  open-after u l = ap (λ (m : ℕ). bit m u) (ap (openIn (recorded (s .log) (receivedCount s) r)) count
-      ∙ open-append (s .log) (receivedCount s) r long ∙ change-open (openIn (s .log) (receivedCount s)) r (c .kind))
-      ∙ i .log .open-ones u l ∙ sym (act-same u)
-
-  inv-after : Recovery.Inv (i .base) (logged n s′ b′)
+  inv-after : Recovery.Inv (i .base) (logOf (λ x. seenFull b′ x .object) (λ x. seenCommitted b′ x .object) (locksOf w n .wr) (locksOf w n .act) (r ∷ received s))
   inv-after = Recovery.carried (i .base)
-      (logOf (λ x. applied r x (seenFull b x .object)) (λ x. seenCommitted b x .object) (locksOf (s .work) n .wr) (locksOf (s .work) n .act) (r ∷ received s)) (logged n s′ b′)
+      (logOf (λ x. applied r x (seenFull b x .object)) (λ x. seenCommitted b x .object) (locksOf (s .work) n .wr) (locksOf (s .work) n .act) (r ∷ received s)) _
       (λ x. sym (ap (λ (v : Seen). v .object) (full-after x)))
       (λ x. sym (ap (λ (v : Seen). v .object) (committed-same x)))
       (λ u p. sym (wr-same u p))
       (λ u. sym (act-same u))
-      (sym (ap shapes received-more))
+      refl
       (log-change (i .base) _ _ _ _ (received s) (i .log .inv) r (is .names) (rw (c .txn) (c .own)) (c .back))
 
-  copies-after : SameCells (received s′) (view (s .copies)) (i .base)
-  copies-after = rw received-more (same-longer (r ∷ []) (received s) (i .log .copies))
+  copies-after : SameCells (r ∷ received s) (view (s .copies)) (i .base)
+  copies-after = same-longer (r ∷ []) (received s) (i .log .copies)
 
   writers-after : Writers b′ (locksOf w n .wr)
   unfolding openly pageOf
@@ -247,5 +225,5 @@ module _ (n : ℕ) (some : 1 ≤ n) (s : Areas) (b : Book) (i : OpenInv n s b) (
     runs = λ u e. act-same u ∙ i .runs u e;
     writers = writers-after;
     base = i .base;
-    log = log-after n some s b (i .base) (i .log) r (line r (b .running t)) s′ b′ appends inv-after m sound-after open-after copies-after;
+    log = log-after n some s b (i .base) (i .log) h r (line r (b .running t)) s′ b′ appends inv-after m sound-after open-after copies-after;
   }

@@ -5,7 +5,6 @@ use mathlib.Core.Path.{_≡_, refl, sym, ap, _∙_}
 use mathlib.Core.Bool.{true}
 use mathlib.Core.List.{List, _∷_}
 use lib.ListN.{length}
-use borrow.Author.Tests.{lt-ltb}
 use Rattle.records.specs.Records.{commitOf}
 use Rattle.records.specs.Effects.{effect}
 use Rattle.areas.specs.Answers.{accepted}
@@ -31,7 +30,7 @@ use Rattle.recovery.proofs.Steps.{logOf, log-commit}
 use Rattle.book_laws.specs.Seen.{Seen, seenCommitted, seenFull}
 use Rattle.book_laws.specs.Keeping.{Runs}
 use Rattle.book_laws.specs.After.{committedBy}
-use Rattle.book_laws.proofs.Soundness.{commit-sound}
+use Rattle.record_laws.specs.SoundRecords.{commit-sound}
 use Rattle.book_laws.proofs.Ending.{commit-full, commit-committed}
 use Rattle.book_laws.proofs.Finishing.{commit-inv}
 use Rattle.book_laws.proofs.Openness as Openness
@@ -86,7 +85,7 @@ module _ (n : ℕ) (some : 1 ≤ n) (s : Areas) (b : Book) (i : OpenInv n s b) (
     lines = refl;
     stable = refl;
     room = f .room;
-    ok = commit-sound n t (lt-ltb t 16 (f .txn));
+    ok = commit-sound n t (f .txn);
     order = i .log .open-ones t (f .txn) ∙ act;
     still = refl;
     full = λ x. ap (λ (v : Seen). v .object) (full-same x);

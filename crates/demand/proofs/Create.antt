@@ -1,17 +1,16 @@
 -- An accepted create keeps the invariant. n is the number of pages. Assumes nothing.
-use Prim.Native.Nat.{ℕ, suc, _≤_, _<_}
+use Prim.Native.Nat.{ℕ, suc, _≤_}
 use native.Mathlib.Omega.{arith}
 use mathlib.Core.Path.{_≡_, refl, sym, ap, _∙_}
-use mathlib.Core.Bool.{true, not, cond, _&&_}
+use mathlib.Core.Bool.{true, cond}
 use mathlib.Core.List.{List, []}
 use mathlib.Core.Logic.{inl, inr}
 use lib.ListN.{length}
 use lib.Dec.{eqb}
-use borrow.Author.Tests.{eqb-true, eq-eqb, lt-ltb}
-use Rattle.words.specs.Tests.{all, all-at, and-split, or-cases, by-bool, clash}
-use Rattle.pages.specs.Geometry.{root, pageOf}
+use borrow.Author.Tests.{eqb-true, eq-eqb}
+use Rattle.words.specs.Tests.{or-cases, by-bool, clash}
+use Rattle.pages.specs.Geometry.{root}
 use Rattle.pages.specs.Objects.{occupied}
-use Rattle.pages.specs.Soundness.{mapSound, refsSound, freeZero, pageSound, areaSound}
 use Rattle.records.specs.Records.{createOf}
 use Rattle.areas.specs.Answers.{accepted}
 use Rattle.areas.specs.Areas.{Areas, Out}
@@ -29,26 +28,19 @@ use Rattle.collector.specs.Calls as C
 use Rattle.collector.proofs.Invariant as Collector
 use Rattle.collector.proofs.Create.{keep-create}
 use Rattle.shown.specs.Tables.{tablesOf}
-use Rattle.shown.proofs.Frames.{wider, is-object}
+use Rattle.shown.proofs.Frames.{wider}
 use Rattle.shown.proofs.Facts as Facts
 use Rattle.shown.proofs.Created.{makes, create-beside, create-tables}
 use Rattle.shown.proofs.Shows.{create-shows}
-use Rattle.recovery.proofs.Reversal.{view-free, create-back}
+use Rattle.views.proofs.Effects.{view-free}
+use Rattle.recovery.proofs.Reversal.{create-back}
 use Rattle.book_laws.specs.Seen.{Seen, acted, seenFull}
 use Rattle.book_laws.proofs.Acts.{create-acts}
-use Rattle.book_laws.proofs.Soundness.{create-sound}
+use Rattle.page_laws.specs.SoundFacts.{sound-facts, free-zero}
+use Rattle.record_laws.specs.SoundRecords.{create-sound}
 use Rattle.book_laws.proofs.Fed.{fed-inv}
 use Rattle.demand.proofs.State.{machine, OpenInv}
 use Rattle.demand.proofs.Change.{machine-shows, full-shown, Changing, change-runs, collector-after, open-change}
-
--- what a sound area says of the root and of free slots
-root-there : (n : ℕ) (a : List ℕ) → areaSound a n ≡ true → occupied a root ≡ true
-unfolding areaSound
-root-there n a h = and-split (all (pageSound a n) n) (occupied a root) h .1
-
-free-zero : (n : ℕ) (a : List ℕ) → areaSound a n ≡ true → (p : ℕ) → p < n → freeZero a p ≡ true
-unfolding areaSound pageSound
-free-zero n a h p l = and-split (mapSound a p && refsSound a n p) (freeZero a p) (all-at (pageSound a n) n p (and-split (all (pageSound a n) n) (occupied a root) h .0) l) .1
 
 -- what a create makes of an object, as the machine says it
 created-at : (m t o x : ℕ) (v : Seen) → acted m (createOf t o) x v ≡ record { object = cond (eqb x o) fresh (v .object); tag = cond (eqb x o) (bornAt m) (v .tag) }
@@ -61,14 +53,12 @@ module _ (n : ℕ) (some : 1 ≤ n) (s : Areas) (b : Book) (i : OpenInv n s b) (
   abbrev m : ℕ
   m = suc (length (b .lines))
 
-  not-root : not (eqb o root) ≡ true
-  not-root = by-bool (eqb o root)
-      (λ e. clash (root-there n (s .received) (h .ranged .received-sound)) (ap (occupied (s .received)) (sym (eqb-true o root e)) ∙ f .free))
-      (λ e. rw e refl)
+  not-root : o ≡ root → ⊥
+  not-root e = clash (sound-facts (s .received) n (h .ranged .received-sound) .rooted) (ap (occupied (s .received)) (sym e) ∙ f .free)
 
   was-blank : seenFull b o .object ≡ blank
   was-blank = full-shown n some s b i o
-      ∙ view-free (s .received) o (f .object .low) (f .free) (free-zero n (s .received) (h .ranged .received-sound) (pageOf o) (f .object .page))
+      ∙ view-free (s .received) o (f .object .low) (f .free) (λ k l. free-zero (s .received) n o (h .ranged .received-sound) (f .object .low) (f .object .top) k l (f .free))
 
   changing : Changing n s b t (createOf t o) w
   changing = record {
@@ -76,7 +66,7 @@ module _ (n : ℕ) (some : 1 ≤ n) (s : Areas) (b : Book) (i : OpenInv n s b) (
     txn = refl;
     small = f .txn;
     active = f .active;
-    ok = create-sound n t (lt-ltb t 16 (f .txn)) o (is-object n o (f .object .low) (f .object .top)) not-root;
+    ok = create-sound n t (f .txn) o (f .object .top) (let l = f .object .low in omega (arith, not-root));
     room = f .room;
     own = Facts.own-is s n (machine n s b) (machine-shows n s b) t o (f .txn) (f .object) (f .lock);
     back = create-back (createOf t o) (seenFull b o .object) refl was-blank;

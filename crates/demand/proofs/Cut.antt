@@ -5,7 +5,7 @@ use native.Mathlib.Decide.{decLt}
 use mathlib.Core.Path.{_≡_, refl, sym, ap, _∙_}
 use mathlib.Core.Bool.{_&&_}
 use mathlib.Core.List.{List, [], _∷_, _++_}
-use lib.ListN.{length, getD, take, drop, replicate, length-replicate, getD-replicate, List·getD-eq-default}
+use lib.ListN.{length, getD, take, drop, replicate, length-replicate, List·getD-eq-default}
 use lib.Seq.{getD-set-same, set-out}
 use Rattle.words.specs.Tests.{all-same}
 use Rattle.records.specs.Records.{made, recordAt}
@@ -14,16 +14,11 @@ use Rattle.records.specs.Order.{openIn, inOrder, logSound}
 use Rattle.areas.specs.Areas.{Areas, stableCount}
 use Rattle.calls.specs.Formatting.{cut}
 use Rattle.book.specs.Books.{awaiting, Book, stopped}
-use Rattle.recovery.proofs.Appending.{recs-same, open-same}
+use Rattle.record_laws.specs.RecordLaws.{open-same}
+use Rattle.recovery.proofs.Appending.{recs-same}
+use Rattle.book_laws.proofs.Folds.{zeros, zero-at}
 use Rattle.demand.proofs.State.{stable, Inv3, cut-store}
 use Rattle.demand.proofs.Stopping.{stops, inv-size, waiting-moved}
-
--- zeros are 0 anywhere
-abbrev pub zeros : ℕ → List ℕ
-zeros n = replicate n 0
-
-pub zero-at : (n i : ℕ) → getD (zeros n) i 0 ≡ 0
-zero-at n i = elim (decLt i n) [ yes l ↦ getD-replicate n i 0 0 l | no l ↦ List·getD-eq-default (zeros n) 0 (rw (length-replicate {A = ℕ} n 0) (omega arith)) ]
 
 -- the words before a place, where zeros stand after it
 kept-before : (k : ℕ) (g : List ℕ) (j : ℕ) → j < k → getD (take k g ++ replicate (length (drop k g)) 0) j 0 ≡ getD g j 0

@@ -1,10 +1,10 @@
 -- What the invariant gives at each point of a list: the claim's `Holds`. n is the number of pages. Assumes nothing.
-use Prim.Native.Nat.{ℕ, zero, suc, _*_, _≤_}
+use Prim.Native.Nat.{ℕ, zero, suc, _≤_}
 use native.Mathlib.Omega.{arith}
 use mathlib.Core.Path.{_≡_, refl, sym, ap, _∙_}
 use mathlib.Core.Bool.{Bool, true, false, not, _&&_}
-use lib.Dec.{eqb, leb}
-use borrow.Author.Tests.{leb-true, not-true}
+use lib.Dec.{eqb}
+use borrow.Author.Tests.{not-true}
 use Rattle.words.specs.Tests.{if, by-bool, clash, and-split}
 use Rattle.pages.specs.Geometry.{isObject}
 use Rattle.pages.specs.Objects.{occupied, released}
@@ -21,19 +21,20 @@ use Rattle.book.specs.Books as Books
 use Rattle.book.specs.Books.{Book, committedLines, fullLines, committedPages, fullPages, countsFull, storing}
 use Rattle.book.specs.Demand.{Point, Holds, Spares, Reopens, accepts, reclaims}
 use Rattle.book.specs.Pointers.{Reached, Leads}
-use Rattle.collector.specs.Bits.{_and_, true-and}
+use Rattle.collector.specs.Bits.{true-and}
 use Rattle.collector.specs.Objects as O
 use Rattle.collector.specs.Objects.{Obj, Reach, edge}
 use Rattle.collector.specs.State as M
 use Rattle.collector.specs.Claim as Claim
 use Rattle.collector.specs.Calls as C
 use Rattle.collector.proofs.Safety.{sound}
-use Rattle.recovery.proofs.Reversal.{view-occ}
+use Rattle.views.proofs.Effects.{view-occ}
 use Rattle.shown.specs.Tables.{phaseOf}
 use Rattle.shown_pass.proofs.Sweep.{deadAt, swept-view}
 use Rattle.book_laws.specs.Seen.{committedOf, seenCommitted, seenFull}
 use Rattle.demand.proofs.State.{machine, OpenInv}
 use Rattle.demand.proofs.Pointing.{leads-out}
+use Rattle.page_laws.specs.Places.{object-range}
 
 -- what a step that cleared an object's slot was
 pub record Swept (n : ℕ) (s : Areas) (o : ℕ) : Type 0 where
@@ -51,7 +52,7 @@ sweeping-phase (suc (suc k)) z e = refl
 
 module _ (n : ℕ) (s : Areas) (h : Open s n) (o : ℕ) (range : isObject n o ≡ true) where
   low : 1 ≤ o
-  low = leb-true 1 o (and-split (leb 1 o) (leb o (16 * n)) range .0)
+  low = object-range n o range .0
 
   -- the received pages after the sweep of the page
   freed : ℕ → Areas

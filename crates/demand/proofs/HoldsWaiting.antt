@@ -1,9 +1,8 @@
 -- What the invariant gives between a cut, or an accepted reopen, and the last reopening step. n is the number of pages. Assumes nothing.
-use Prim.Native.Nat.{ℕ, _*_, _≤_}
+use Prim.Native.Nat.{ℕ, _≤_}
 use native.Mathlib.Omega.{arith}
 use mathlib.Core.Path.{_≡_, refl, sym, ap, _∙_}
 use mathlib.Core.Bool.{true, false, not}
-use lib.ListN.{length}
 use lib.Seq.{ext-getD}
 use borrow.Author.Tests.{le-ltb}
 use Rattle.words.specs.Tests.{and-false, or-false}
@@ -21,9 +20,9 @@ use Rattle.book.specs.Books as Books
 use Rattle.book.specs.Books.{Book, storing, committedLines, fullLines, committedPages, fullPages, countsFull, countsCommitted}
 use Rattle.book.specs.Demand.{Holds, Spares, Reopens}
 use Rattle.book.specs.Pointers.{Leads}
-use Rattle.book_laws.proofs.Folds.{after-length}
 use Rattle.book_laws.proofs.Running.{runs-none}
 use Rattle.book_laws.proofs.Committed.{filtered-same}
+use Rattle.book_laws.proofs.Pages.{committed-length}
 use Rattle.demand.proofs.State.{Waiting, AwaitInv, StoringInv}
 
 -- nobody runs: the full pages are the committed ones
@@ -70,10 +69,6 @@ await-holds n s b i = record {
 }
 
 module _ (n : ℕ) (some : 1 ≤ n) (s : Areas) (b : Book) (k : ℕ) (i : StoringInv n s b k) where
-  committed-length : length (committedPages n b) ≡ 129 * n
-  unfolding committedLines
-  committed-length = after-length n some (countsCommitted b) (b .lines) (λ l m e. i .waiting .sound l m)
-
   -- an accepted step has n pages
   pub step-entered : accepted (callRestep s .answer) ≡ true → Entered false true s n × (callRestep s .after ≡ restepped s n)
   step-entered a =
@@ -87,7 +82,7 @@ module _ (n : ℕ) (some : 1 ≤ n) (s : Areas) (b : Book) (k : ℕ) (i : Storin
   last e = let p : at (s .work) reopeningPageAt ≡ n = i .page ∙ e in rw (p, le-ltb n n (omega arith)) refl
 
   all-stored : k ≡ n → Entered false true s n → s .stored ≡ committedPages n b
-  all-stored e h = ext-getD 0 (s .stored) (committedPages n b) (h .sized .stored-len ∙ sym committed-length) (λ j l. i .stored j (let q = h .sized .stored-len in rw e (omega arith)))
+  all-stored e h = ext-getD 0 (s .stored) (committedPages n b) (h .sized .stored-len ∙ sym (committed-length n some b (i .waiting .sound))) (λ j l. i .stored j (let q = h .sized .stored-len in rw e (omega arith)))
 
   pub storing-reopens : Reopens n (record { store = s; book = b })
   unfolding perform reopeningOver

@@ -1,5 +1,5 @@
 -- A call that appends no record and stores nothing: the log's part of the invariant after it. n is the number of pages. Assumes nothing.
-use Prim.Native.Nat.{ℕ, _-_}
+use Prim.Native.Nat.{ℕ}
 use mathlib.Core.Path.{_≡_, sym, _∙_}
 use Rattle.areas.specs.Areas.{Areas}
 use Rattle.book.specs.Books.{Book}

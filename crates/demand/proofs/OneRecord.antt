@@ -5,17 +5,20 @@ use native.Mathlib.Numerals.{add-one}
 use mathlib.Core.Path.{_≡_, refl, sym, ap, _∙_}
 use mathlib.Core.Bool.{true}
 use mathlib.Core.List.{List, _∷_}
-use lib.ListN.{length, take, drop}
+use lib.ListN.{length, take, drop, set}
+use lib.Seq.{getD-set-same, getD-set-other}
 use Rattle.words.specs.Bits.{bit}
 use Rattle.records.specs.declared.Record.{Record}
 use Rattle.records.specs.Records.{recordAt, recorded}
-use Rattle.record_laws.specs.RecordLaws.{recorded-same, recorded-other}
+use Rattle.record_laws.specs.RecordLaws.{recorded-same, recorded-other, open-append}
 use Rattle.records.specs.Soundness.{recordSound}
-use Rattle.records.specs.Order.{openIn, inOrder, logSound}
+use Rattle.records.specs.Order.{openIn, openNext, inOrder, logSound}
 use Rattle.areas.specs.Areas.{Areas, receivedCount, stableCount}
+use Rattle.areas.specs.Entry.{records}
 use Rattle.book.specs.Lines.{Line, pagesAfter}
 use Rattle.book.specs.Books.{Book}
 use Rattle.book.specs.Pointers.{Leads}
+use Rattle.acceptance.specs.Entered.{Open}
 use Rattle.collector.specs.Objects.{Obj}
 use Rattle.collector.proofs.Invariant as Collector
 use Rattle.collector.proofs.Safety.{sound}
@@ -26,7 +29,8 @@ use Rattle.recovery.specs.Shapes.{shapes, recs}
 use Rattle.recovery.proofs.Appending.{recs-same, recs-more, log-more}
 use Rattle.recovery.proofs.Decided.{SameCells}
 use Rattle.recovery.proofs.Invariant as Recovery
-use Rattle.book_laws.specs.Seen.{counted, committedOf, seen}
+use Rattle.recovery.proofs.Steps.{logOf}
+use Rattle.book_laws.specs.Seen.{counted, committedOf, seen, seenCommitted, seenFull}
 use Rattle.book_laws.specs.Striking.{entries}
 use Rattle.book_laws.specs.Keeping.{SoundLines}
 use Rattle.demand.proofs.State.{machine, received, stable, logged, LogInv}
@@ -55,52 +59,62 @@ module _ (g : List ℕ) (c : ℕ) (r : Record) (long : 6 * c + 6 ≤ length g) w
 pub record Appends (n : ℕ) (s : Areas) (b : Book) (r : Record) (l : Line) (s′ : Areas) (b′ : Book) : Type 0 where
   pub entry : l .entry ≡ r
   pub log : s′ .log ≡ recorded (s .log) (receivedCount s) r
-  pub count : receivedCount s′ ≡ receivedCount s + 1
-  pub stable-count : stableCount s′ ≡ stableCount s
+  pub counts : s′ .counts ≡ set (s .counts) 0 (receivedCount s + 1)
   pub stored : s′ .stored ≡ s .stored
   pub lines : b′ .lines ≡ l ∷ b .lines
   pub stable : b′ .stable ≡ b .stable
-  pub long : 6 * receivedCount s + 6 ≤ length (s .log)
+  pub room : receivedCount s + 1 ≤ records s
   pub ok : recordSound n r ≡ true
   pub order : inOrder (openIn (s .log) (receivedCount s)) r ≡ true
 
-module _ (n : ℕ) (some : 1 ≤ n) (s : Areas) (b : Book) (base : ℕ → Obj) (i : LogInv n s b base) (r : Record) (l : Line) (s′ : Areas) (b′ : Book) (a : Appends n s b r l s′ b′) where
+module _ (n : ℕ) (some : 1 ≤ n) (s : Areas) (b : Book) (base : ℕ → Obj) (i : LogInv n s b base) (z : Open s n) (r : Record) (l : Line) (s′ : Areas) (b′ : Book)
+    (a : Appends n s b r l s′ b′) where
+  long : 6 * receivedCount s + 6 ≤ length (s .log)
+  long = let e = z .sized .log-len in let q = a .room in omega arith
+
+  count : receivedCount s′ ≡ receivedCount s + 1
+  count = rw (a .counts) (getD-set-same (s .counts) 0 (receivedCount s + 1) 0 (let e = z .sized .counts-len in omega arith))
+
+  stable-count : stableCount s′ ≡ stableCount s
+  stable-count = rw (a .counts) (getD-set-other (s .counts) 0 1 (receivedCount s + 1) 0 (λ q. omega arith))
+
   received-more : received s′ ≡ r ∷ received s
-  received-more = rw (a .log, a .count) (records-more (s .log) (receivedCount s) r (a .long))
+  received-more = rw (a .log, count) (records-more (s .log) (receivedCount s) r long)
 
   stable-kept : stable s′ ≡ stable s
-  stable-kept = rw (a .log, a .stable-count) (records-below (s .log) (receivedCount s) r (a .long) (stableCount s) (i .stable-few))
+  stable-kept = rw (a .log, stable-count) (records-below (s .log) (receivedCount s) r long (stableCount s) (i .stable-few))
 
   entries-more : entries (take (receivedCount s′) (b′ .lines)) ≡ received s′
   unfolding entries
-  entries-more = let e : entries (take (receivedCount s′) (b′ .lines)) ≡ r ∷ received s = rw (a .count, add-one (receivedCount s), a .lines, a .entry, i .same) refl in
+  entries-more = let e : entries (take (receivedCount s′) (b′ .lines)) ≡ r ∷ received s = rw (count, add-one (receivedCount s), a .lines, a .entry, i .same) refl in
       e ∙ sym received-more
 
   parts : Recovery.Inv base (logged n s′ b′) → (j : ℕ) → j ≤ receivedCount s′ - stableCount s′ → (x : ℕ)
       → Log.book base x Log.nobody (shapes (drop j (received s′))) ≡ seen (counted (drop j (b′ .lines))) (drop j (b′ .lines)) x .object
   parts h zero k x = h .booked x
-  parts h (suc j) k x = rw (received-more, a .lines) (i .part j (let e = a .count in let d = a .stable-count in let m = i .stable-few in omega arith) x)
+  parts h (suc j) k x = rw (received-more, a .lines) (i .part j (let e = count in let d = stable-count in let m = i .stable-few in omega arith) x)
 
   all-lead : Collector.Inv (machine n s′ b′) → SoundLines n (b′ .lines) → (j : ℕ) → j ≤ receivedCount s′ - stableCount s′
       → Leads (pagesAfter n (committedOf (drop j (b′ .lines)))) (committedOf (drop j (b′ .lines)))
   all-lead h ok zero k = machine-leads n some s′ b′ h ok
-  all-lead h ok (suc j) k = rw (a .lines) (i .leads j (let e = a .count in let d = a .stable-count in let m = i .stable-few in omega arith))
+  all-lead h ok (suc j) k = rw (a .lines) (i .leads j (let e = count in let d = stable-count in let m = i .stable-few in omega arith))
 
   -- the log's part of the invariant after it
-  pub log-after : Recovery.Inv base (logged n s′ b′) → Collector.Inv (machine n s′ b′) → SoundLines n (b′ .lines)
-      → ((t : ℕ) → t < 16 → bit (openIn (s′ .log) (receivedCount s′)) t ≡ locksOf (s′ .work) n .act t)
-      → SameCells (received s′) (view (s′ .copies)) base
+  pub log-after : Recovery.Inv base (logOf (λ x. seenFull b′ x .object) (λ x. seenCommitted b′ x .object) (locksOf (s′ .work) n .wr) (locksOf (s′ .work) n .act) (r ∷ received s))
+      → Collector.Inv (machine n s′ b′) → SoundLines n (b′ .lines)
+      → ((t : ℕ) → t < 16 → bit (openNext (openIn (s .log) (receivedCount s)) r) t ≡ locksOf (s′ .work) n .act t)
+      → SameCells (r ∷ received s) (view (s′ .copies)) base
       → LogInv n s′ b′ base
-  log-after h m ok opens copies = record {
+  log-after j m ok opens copies = let h : Recovery.Inv base (logged n s′ b′) = rw received-more j in record {
     inv = h;
-    few = rw (a .lines) (let e = a .count in let f = i .few in omega arith);
+    few = rw (a .lines) (let e = count in let f = i .few in omega arith);
     same = entries-more;
-    stable-few = let e = a .count in let d = a .stable-count in let f = i .stable-few in omega arith;
-    stable-same = rw (a .lines, a .stable) (let e = a .count in let d = a .stable-count in let f = i .stable-few in let g = i .stable-same in omega arith);
-    order = rw (a .log, a .count) (order-more (s .log) (receivedCount s) r (a .long) n (i .order) (a .ok) (a .order));
-    open-ones = opens;
+    stable-few = let e = count in let d = stable-count in let f = i .stable-few in omega arith;
+    stable-same = rw (a .lines, a .stable) (let e = count in let d = stable-count in let f = i .stable-few in let g = i .stable-same in omega arith);
+    order = rw (a .log, count) (order-more (s .log) (receivedCount s) r long n (i .order) (a .ok) (a .order));
+    open-ones = λ t k. rw (a .log, count, open-append (s .log) (receivedCount s) r long) (opens t k);
     part = parts h;
     leads = all-lead m ok;
     stored = rw (stable-kept, a .stored) (i .stored);
-    copies = copies;
+    copies = rw received-more copies;
   }

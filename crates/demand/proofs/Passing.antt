@@ -35,7 +35,6 @@ use Rattle.shown.specs.Tables.{phaseOf, locksOf, tablesOf}
 use Rattle.shown.proofs.Areas.{reference}
 use Rattle.shown.proofs.Frames.{Beside, beside-over, beside-fill, beside-set, wider, later}
 use Rattle.shown.proofs.Shows.{Shows}
-use Rattle.shown_pass.proofs.Kept.{object-range}
 use Rattle.shown_pass.proofs.Mark.{scan-locks, scan-tables, scan-pass, moved-locks, moved-tables, moved-pass, scanned-low, steps-suc}
 use Rattle.shown_pass.proofs.PassFacts.{lowest-object, lowest-grey, no-grey}
 use Rattle.shown_pass.proofs.Start.{start-locks, start-tables, start-pass}
@@ -44,6 +43,7 @@ use Rattle.book_laws.proofs.Sweeps.{sweep-kept}
 use Rattle.demand.proofs.State.{machine, OpenInv}
 use Rattle.demand.proofs.Holds.{sweeping-phase}
 use Rattle.demand.proofs.Unlogged.{open-unlocked}
+use Rattle.page_laws.specs.Places.{object-range}
 
 -- a pass record written leaves the words of a reopening
 pass-beside : (w : List ℕ) (phase page steps : ℕ) → Beside 2 5 w (withPass w phase page steps)

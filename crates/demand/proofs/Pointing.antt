@@ -14,14 +14,14 @@ use Rattle.pages.specs.Objects.{occupied, wordOf}
 use Rattle.records.specs.declared.Record.{Record}
 use Rattle.book.specs.Lines.{Line, filtered, pagesAfter}
 use Rattle.book.specs.Pointers.{Refers, Reached, root, next, Leads}
-use Rattle.collector.specs.Bits.{_and_, anyb-elim, and-l, and-r}
+use Rattle.collector.specs.Bits.{anyb-elim, and-l, and-r}
 use Rattle.collector.specs.Objects as O
 use Rattle.collector.specs.Objects.{Obj, Tag, points, Reach, edge, Whole}
 use Rattle.collector.specs.Claim as Claim
 use Rattle.collector.proofs.Objects.{points-some, word-edge}
 use Rattle.views.specs.View.{view, applied, names}
-use Rattle.views.proofs.Sound.{SoundRecord, sound-record}
-use Rattle.recovery.proofs.Reversal.{view-occ, view-word}
+use Rattle.record_laws.specs.RecordLaws.{SoundRecord, sound-record}
+use Rattle.views.proofs.Effects.{view-occ, view-word}
 use Rattle.book_laws.specs.Seen.{seen, first}
 use Rattle.book_laws.specs.Keeping.{here, later, SoundLines}
 use Rattle.book_laws.proofs.Folds.{after-view}
@@ -44,7 +44,7 @@ ref-four b f h = ltb-true f 4 h
 ref-small : (b : Obj) (f : ℕ) → O.isRef b f ≡ true → f < 8
 ref-small b f h = let k = ref-four b f h in omega arith
 
-first-word : (x f : ℕ) → first x .object .word f ≡ 0
+pub first-word : (x f : ℕ) → first x .object .word f ≡ 0
 unfolding O.fresh O.blank
 first-word x f = by-bool (eqb x 1) (λ e. rw e refl) (λ e. rw e refl)
 
@@ -58,7 +58,7 @@ unfolding applied O.fresh O.blank
 applied-range {n} r h x b f l k = by-bool (names 2 r x)
     (λ e. rw e (omega arith))
     (λ e. rw e (by-bool (names 3 r x)
-    (λ d. rw d (put-range b (r .field) (r .new) f (16 * n) k (λ z. h .new (eqb-true (r .kind) 3 (Rattle.words.specs.Tests.and-l (eqb (r .kind) 3) (eqb (r .object) x) d)) (omega arith))))
+    (λ d. rw d (put-range b (r .field) (r .new) f (16 * n) k (λ z. h .new-reference (eqb-true (r .kind) 3 (Rattle.words.specs.Tests.and-l (eqb (r .kind) 3) (eqb (r .object) x) d)) (omega arith))))
     (λ d. rw d (by-bool (names 6 r x || Rattle.book.specs.Pointers.sweeps r x) (λ q. rw q (omega arith)) (λ q. rw q k)))))
 
 module _ (n : ℕ) (some : 1 ≤ n) (c : Line → Bool) (ls : List Line) (ok : SoundLines n ls) where

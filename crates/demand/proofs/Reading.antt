@@ -34,7 +34,7 @@ use Rattle.shown.proofs.Frames.{reopening-kept}
 use Rattle.shown.proofs.Facts as Facts
 use Rattle.shown.proofs.Learned.{read-beside, read-locks, read-tables}
 use Rattle.shown.proofs.Shows.{read-shows}
-use Rattle.recovery.proofs.Reversal.{view-word}
+use Rattle.views.proofs.Effects.{view-word}
 use Rattle.book_laws.specs.Seen.{seenFull}
 use Rattle.book_laws.proofs.Invariant.{learn-inv}
 use Rattle.demand.proofs.State.{machine, OpenInv}

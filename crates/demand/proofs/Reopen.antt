@@ -1,5 +1,5 @@
 -- An accepted reopen keeps the invariant. n is the number of pages. Assumes nothing.
-use Prim.Native.Nat.{ℕ, _≤_}
+use Prim.Native.Nat.{ℕ, _*_, _≤_}
 use native.Mathlib.Omega.{arith}
 use mathlib.Core.Path.{_≡_, refl, sym, ap, _∙_}
 use mathlib.Core.Bool.{true}
@@ -19,14 +19,26 @@ use Rattle.book.specs.Books.{storing, Book, committedPages, stopped}
 use Rattle.book.specs.Feeding.{fed}
 use Rattle.recovery.specs.Shapes.{recs}
 use Rattle.recovery.proofs.Maps.{small-sound, small-recovered}
-use Rattle.recovery.proofs.Reopening.{length-recovered, recovered-view}
+use Rattle.record_laws.specs.EffectLaws.{length-recovered}
+use Rattle.recovery.proofs.Reopening.{recovered-view}
 use Rattle.book_laws.specs.Seen.{Seen}
 use Rattle.book_laws.proofs.Pages.{stop-one}
 use Rattle.demand.proofs.State.{Waiting, StoringInv, Inv3, reopening-store}
 use Rattle.demand.proofs.HoldsWaiting.{idle-full}
 use Rattle.demand.proofs.Shared.{full-ext}
 use Rattle.demand.proofs.Stopping.{stops, inv-size, waiting-moved}
-use Rattle.demand.proofs.Cut.{zeros, zero-at}
+use Rattle.book_laws.proofs.Folds.{zeros, zero-at}
+use Rattle.pages.specs.Soundness.{areaSound}
+
+-- what reopening recovers is the committed state that the stop leaves
+pub recovered-committed : (n : ℕ) → 1 ≤ n → (s : Areas) (b : Book) → Inv3 n s b → length (s .stored) ≡ 129 * n → areaSound (s .stored) n ≡ true
+    → recovered (s .stored) (s .log) (stableCount s) ≡ committedPages n (stopped (storing 0) b)
+recovered-committed n some s b i l sound =
+    let b′ = stopped (storing 0) b in let w = stops n some s b (storing 0) i in
+    full-ext n some b′ (w .sound) (recovered (s .stored) (s .log) (stableCount s)) (length-recovered (s .stored) (s .log) (stableCount s) ∙ l)
+    (small-recovered n (s .stored) (s .log) (stableCount s) l (small-sound n (s .stored) sound) (w .order))
+    (λ x. recovered-view n (s .stored) (s .log) (stableCount s) l (w .order) x ∙ w .gives x ∙ sym (ap (λ (v : Seen). v .object) (stop-one (storing 0) b x)))
+    ∙ ap (pagesAfter n) (idle-full b′ (w .idle))
 
 module _ (n : ℕ) (some : 1 ≤ n) (s : Areas) (b : Book) (i : Inv3 n s b) (f : ReopenFacts s) where
   abbrev b′ : Book
@@ -40,14 +52,6 @@ module _ (n : ℕ) (some : 1 ≤ n) (s : Areas) (b : Book) (i : Inv3 n s b) (f :
 
   waits : Waiting n s b′
   waits = stops n some s b (storing 0) i
-
-  recovered-committed : recovered (s .stored) (s .log) (stableCount s) ≡ committedPages n b′
-  recovered-committed = let g = recovers .log-sound in let l = size .stored-len in
-      full-ext n some b′ (waits .sound) (recovered (s .stored) (s .log) (stableCount s))
-      (length-recovered n (s .stored) (s .log) (stableCount s) l g)
-      (small-recovered n (s .stored) (s .log) (stableCount s) l (small-sound n (s .stored) (recovers .stored-sound)) g)
-      (λ x. recovered-view n (s .stored) (s .log) (stableCount s) l g x ∙ waits .gives x ∙ sym (ap (λ (v : Seen). v .object) (stop-one (storing 0) b x)))
-      ∙ ap (pagesAfter n) (idle-full b′ (waits .idle))
 
   stable-count : stableCount (reopened s) ≡ stableCount s
   unfolding reopened
@@ -73,8 +77,8 @@ module _ (n : ℕ) (some : 1 ≤ n) (s : Areas) (b : Book) (i : Inv3 n s b) (f :
     word = begun;
     page = clear 1 (omega arith);
     waiting = waiting-moved n s (reopened s) b′ (ap (recs (s .log)) stable-count) refl (rw stable-count (recovers .log-sound)) waits;
-    received = recovered-committed;
-    copies = recovered-committed;
+    received = recovered-committed n some s b i (size .stored-len) (recovers .stored-sound);
+    copies = recovered-committed n some s b i (size .stored-len) (recovers .stored-sound);
     counts = received-count ∙ sym stable-count;
     stored = λ j l. absurd (omega arith);
     clear = λ j l. clear j (omega arith);

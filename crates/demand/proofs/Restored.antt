@@ -3,11 +3,11 @@
 use Prim.Native.Nat.{ℕ, zero, suc, _*_, _≤_, _<_}
 use native.Mathlib.Omega.{arith}
 use mathlib.Core.Path.{_≡_, _∙_}
-use mathlib.Core.Bool.{false, _&&_}
+use mathlib.Core.Bool.{_&&_}
 use mathlib.Core.List.{List}
 use lib.ListN.{length}
 use lib.Dec.{eqb, ltb}
-use borrow.Author.Tests.{eqb-true, eqb-false, lt-ltb, le-ltb, ltb-true, ltb-false}
+use borrow.Author.Tests.{eqb-true, eqb-false, lt-ltb, le-ltb}
 use Rattle.words.specs.Tests.{if, by-bool}
 use Rattle.pages.specs.Geometry as Geometry
 use Rattle.page_laws.specs.ViewLaws.{length-copied}
@@ -19,12 +19,7 @@ use Rattle.collector.specs.Objects.{pageOf}
 use Rattle.collector.specs.State.{mix}
 use Rattle.views.specs.View.{view}
 use Rattle.shown.specs.Tables.{locksOf, pageBit}
-
--- below k or below k + 1: the same but for k
-below-next : (q k : ℕ) → eqb q k ≡ false → ltb q (suc k) ≡ ltb q k
-below-next q k e = let d = eqb-false q k e in by-bool (ltb q k)
-    (λ h. rw (h, lt-ltb q (suc k) (let z = ltb-true q k h in omega arith)))
-    (λ h. rw (h, le-ltb q (suc k) (let z = ltb-false q k h in omega arith)))
+use Rattle.page_laws.specs.BitLaws.{below-suc}
 
 module _ (w : List ℕ) (n t : ℕ) (received copies : List ℕ) (lr : length received ≡ 129 * n) (lc : length copies ≡ 129 * n) where
   pub length-restored : (k : ℕ) → k ≤ n → length (restored w n t received copies k) ≡ 129 * n
@@ -42,10 +37,10 @@ module _ (w : List ℕ) (n t : ℕ) (received copies : List ℕ) (lr : length re
       (λ e. rw e (copied-view n received (restored w n t received copies p) p lr (length-restored p (omega arith)) (omega arith) x
       ∙ by-bool (eqb (Geometry.pageOf x) p)
       (λ d. rw (d, eqb-true (Geometry.pageOf x) p d, lt-ltb p (suc p) (omega arith), e))
-      (λ d. rw (d, below-next (Geometry.pageOf x) p d) (restored-below p (omega arith) x))))
+      (λ d. rw (d, below-suc (Geometry.pageOf x) p (eqb-false (Geometry.pageOf x) p d)) (restored-below p (omega arith) x))))
       (λ e. rw e (restored-below p (omega arith) x ∙ by-bool (eqb (Geometry.pageOf x) p)
       (λ d. rw (eqb-true (Geometry.pageOf x) p d, lt-ltb p (suc p) (omega arith), le-ltb p p (omega arith), e))
-      (λ d. rw (below-next (Geometry.pageOf x) p d))))
+      (λ d. rw (below-suc (Geometry.pageOf x) p (eqb-false (Geometry.pageOf x) p d)))))
 
   -- t's pages are the received ones
   pub restored-view : t < 16 → (x : ℕ) → view (restored w n t received copies n) x ≡ mix (λ o. locksOf w n .wr t (pageOf o)) (view received) (view copies) x

@@ -6,8 +6,6 @@ use mathlib.Core.Bool.{true}
 use mathlib.Core.List.{List, []}
 use lib.ListN.{length-replicate}
 use lib.Seq.{getD-set-same, getD-set-other}
-use lib.Dec.{eqb}
-use Rattle.words.specs.Tests.{by-bool}
 use Rattle.pages.specs.Objects.{wordOf, formattedPages}
 use Rattle.records.specs.Soundness.{recordSound}
 use Rattle.areas.specs.Areas.{Areas}
@@ -18,25 +16,20 @@ use Rattle.calls.specs.Formatting.{formatted}
 use Rattle.book.specs.Lines.{filtered, pagesAfter}
 use Rattle.book.specs.Books.{blank, countsCommitted, committedLines}
 use Rattle.book.specs.Pointers.{Reached, root, next, unbroken, Leads}
-use Rattle.collector.specs.Objects as O
 use Rattle.collector.specs.Objects.{Obj}
-use Rattle.recovery.proofs.Reversal.{view-word}
-use Rattle.book_laws.specs.Seen.{first}
+use Rattle.views.proofs.Effects.{view-word}
 use Rattle.book_laws.proofs.Folds.{formatted-length, formatted-view}
 use Rattle.book_laws.proofs.Invariant.{blank-inv}
 use Rattle.book_laws.proofs.Members.{each-nil}
+use Rattle.demand.proofs.Pointing.{first-word}
 use Rattle.demand.proofs.State.{Inv3, open-store}
 use Rattle.demand.proofs.Stopping.{whole-of}
-use Rattle.demand.proofs.Cut.{zeros, zero-at}
+use Rattle.book_laws.proofs.Folds.{zeros, zero-at}
 use Rattle.demand.proofs.Rest.{Resting, rest-open}
 
 reached-some : {a : List ℕ} {x : ℕ} → Reached a x → 1 ≤ x
 reached-some root = omega arith
 reached-some (next f p r) = let k = r .some in omega arith
-
-first-words : (x f : ℕ) → first x .object .word f ≡ 0
-unfolding O.fresh O.blank
-first-words x f = by-bool (eqb x 1) (λ e. rw e refl) (λ e. rw e refl)
 
 module _ (n l : ℕ) (some : 1 ≤ n) where
   abbrev s : Areas
@@ -44,7 +37,7 @@ module _ (n l : ℕ) (some : 1 ≤ n) where
 
   -- no word is a reference
   no-words : (o f : ℕ) → 1 ≤ o → f < 8 → wordOf (formattedPages n) o f ≡ 0
-  no-words o f h k = sym (view-word (formattedPages n) o h f k) ∙ ap (λ (b : Obj). b .word f) (formatted-view n some o) ∙ first-words o f
+  no-words o f h k = sym (view-word (formattedPages n) o h f k) ∙ ap (λ (b : Obj). b .word f) (formatted-view n some o) ∙ first-word o f
 
   leads : Leads (formattedPages n) []
   unfolding unbroken

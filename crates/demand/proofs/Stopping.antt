@@ -5,7 +5,6 @@ use native.Mathlib.Omega.{arith}
 use mathlib.Core.Path.{_≡_, refl, sym, ap, _∙_}
 use mathlib.Core.Bool.{Bool, true, _&&_}
 use mathlib.Core.List.{List, [], _∷_}
-use mathlib.Core.Logic.{inr}
 use lib.ListN.{length}
 use lib.Dec.{eqb}
 use borrow.Author.Tests.{eqb-true}
@@ -21,12 +20,13 @@ use Rattle.book.specs.Books.{Stage, Book, countsCommitted, committedLines, comm
 use Rattle.book.specs.Pointers.{sweeps, Leads}
 use Rattle.collector.specs.Objects.{Obj, fresh, put, Whole}
 use Rattle.views.specs.View.{view, names, applied}
-use Rattle.views.proofs.Sound.{SoundRecord, sound-record}
+use Rattle.record_laws.specs.RecordLaws.{SoundRecord, sound-record}
+use Rattle.record_laws.specs.SoundRecords.{sweep-spares}
 use Rattle.recovery.specs.Lines as Log
 use Rattle.recovery.specs.Shapes.{shapes}
 use Rattle.recovery.proofs.Appending.{recs-drop, log-prefix}
 use Rattle.recovery.proofs.Decided.{decided}
-use Rattle.recovery.proofs.Reversal.{view-occ}
+use Rattle.views.proofs.Effects.{view-occ}
 use Rattle.recovery.proofs.Steps.{log-recs}
 use Rattle.book_laws.specs.Seen.{counted, committedOf, seen}
 use Rattle.book_laws.specs.Keeping.{here, later, SoundLines, BookInv}
@@ -41,14 +41,14 @@ use Rattle.demand.proofs.Pointing.{whole-in}
 -- no sound record frees the root
 root-kept : {n : ℕ} (r : Record) → SoundRecord n r → (b : Obj) → b .occ ≡ true → applied r root b .occ ≡ true
 unfolding applied fresh put
-root-kept r h b e = by-bool (names 2 r root) (λ q. rw q refl) (λ q. rw q (by-bool (names 3 r root) (λ d. rw d e) (λ d. rw d (by-bool (names 6 r root)
-    (λ k. let z = and-split (eqb (r .kind) 6) (eqb (r .object) root) k in absurd (h .notRoot (inr (eqb-true (r .kind) 6 (z .0))) (eqb-true (r .object) root (z .1))))
+root-kept {n} r h b e = by-bool (names 2 r root) (λ q. rw q refl) (λ q. rw q (by-bool (names 3 r root) (λ d. rw d e) (λ d. rw d (by-bool (names 6 r root)
+    (λ k. let z = and-split (eqb (r .kind) 6) (eqb (r .object) root) k in let u = h .uncreate (eqb-true (r .kind) 6 (z .0)) .0 in let e = eqb-true (r .object) root (z .1) in absurd (omega arith))
     (λ k. rw k (by-bool (sweeps r root) (λ z. freed z) (λ z. rw z e)))))))
   where
     freed : {A : Type 0} → sweeps r root ≡ true → A
     freed z = let p = and-split (eqb (r .kind) 7 && eqb (r .object) (pageOf root)) (bit (r .new) (slotOf root)) z in
         let q = and-split (eqb (r .kind) 7) (eqb (r .object) (pageOf root)) (p .0) in
-        clash (and-t (eqb (r .object) (pageOf root)) (bit (r .new) (slotOf root)) (q .1) ∙ p .1) (h .spared (eqb-true (r .kind) 7 (q .0)))
+        clash (and-t (eqb (r .object) (pageOf root)) (bit (r .new) (slotOf root)) (q .1) ∙ p .1) (sweep-spares n r h (eqb-true (r .kind) 7 (q .0)))
 
 pub root-there : (n : ℕ) (c : Line → Bool) (ls : List Line) → SoundLines n ls → seen c ls root .object .occ ≡ true
 unfolding seen fresh

@@ -1,11 +1,10 @@
 -- A sweeping step that frees objects of its page keeps the invariant. n is the number of pages. Assumes nothing.
-use Prim.Native.Nat.{ℕ, zero, suc, _+_, _*_, _≤_, _<_}
+use Prim.Native.Nat.{ℕ, zero, suc, _≤_, _<_}
 use native.Mathlib.Omega.{arith}
 use mathlib.Core.Path.{_≡_, refl, sym, ap, _∙_}
 use mathlib.Core.Bool.{Bool, true, false, cond, _&&_}
 use mathlib.Core.List.{List, _∷_}
 use lib.ListN.{length}
-use lib.Seq.{getD-set-same, getD-set-other}
 use lib.Dec.{eqb, leb}
 use borrow.Author.Tests.{eqb-true, eq-eqb, ne-eqb, le-leb}
 use Rattle.words.specs.Tests.{if, by-bool, clash, and-split, and-true, and-false}
@@ -14,11 +13,10 @@ use Rattle.pages.specs.Geometry as Geometry
 use Rattle.pages.specs.Geometry.{slotOf, objectAt, root}
 use Rattle.pages.specs.Objects.{taken, occupied, released}
 use Rattle.records.specs.declared.Record.{Record}
-use Rattle.records.specs.Records.{recorded, sweepOf}
+use Rattle.records.specs.Records.{sweepOf}
 use Rattle.records.specs.Effects.{effect}
 use Rattle.records.specs.Soundness.{recordSound}
-use Rattle.records.specs.Order.{openIn}
-use Rattle.record_laws.specs.RecordLaws.{open-append}
+use Rattle.records.specs.Order.{openIn, openNext}
 use Rattle.areas.specs.declared.Check.the-variants.{Pass}
 use Rattle.areas.specs.Areas.{Areas, receivedCount, withWork, appended}
 use Rattle.areas.specs.Layout.{phaseAt, passPageAt}
@@ -45,11 +43,10 @@ use Rattle.views.proofs.Places.{page-of-at, slot-of-at}
 use Rattle.shown.specs.Tables.{phaseOf, locksOf, tablesOf}
 use Rattle.shown_pass.proofs.PassFacts.{unlocked-unwritten}
 use Rattle.shown_pass.proofs.Sweep.{deadAt-is, swept-view, on-locks, on-tables, on-pass}
-use Rattle.recovery.specs.Shapes.{shapes, recs}
 use Rattle.recovery.proofs.Decided.{SameCells, some-first}
 use Rattle.recovery.proofs.Invariant as Recovery
-use Rattle.recovery.proofs.Reversal.{view-occ}
-use Rattle.recovery.proofs.Sound.{sweep-sound}
+use Rattle.views.proofs.Effects.{view-occ}
+use Rattle.record_laws.specs.SoundRecords.{sweep-sound}
 use Rattle.recovery.proofs.Steps.{logOf, log-sweep}
 use Rattle.book_laws.specs.After.{sweptBy}
 use Rattle.book_laws.specs.Seen.{Seen, acted, seenCommitted, seenFull}
@@ -61,8 +58,8 @@ use Rattle.book_laws.proofs.Invariant.{sweep-inv}
 use Rattle.book_laws.proofs.Members.{each-cons}
 use Rattle.book_laws.proofs.Openness as Openness
 use Rattle.book_laws.proofs.Sweeps.{sweep-released}
-use Rattle.demand.proofs.State.{machine, received, logged, OpenInv}
-use Rattle.demand.proofs.OneRecord.{records-more, Appends, log-after}
+use Rattle.demand.proofs.State.{machine, received, OpenInv}
+use Rattle.demand.proofs.OneRecord.{Appends, log-after}
 use Rattle.demand.proofs.Change.{full-shown}
 use Rattle.demand.proofs.Passing.{sweep-room, advance-word}
 
@@ -122,7 +119,7 @@ module _ (n : ℕ) (some : 1 ≤ n) (s : Areas) (b : Book) (i : OpenInv n s b) (
   small = map-lt (λ k. taken (s .copies) page k && unmarked (s .work) n page k) 16
 
   ok : recordSound n r ≡ true
-  ok = sweep-sound n page map below (let l = small in omega arith) spared
+  ok = sweep-sound n page map below small spared
 
   -- what the book shows
   swept-at : (x : ℕ) (v : Seen) → acted m r x v ≡ record { object = cond (dead x) blank (v .object); tag = cond (dead x) (bornAt m) (v .tag) }
@@ -159,47 +156,33 @@ module _ (n : ℕ) (some : 1 ≤ n) (s : Areas) (b : Book) (i : OpenInv n s b) (
   wr-same u p = ap (λ (a : Locks). a .wr u p) locks
 
   -- the log's part
-  long : 6 * receivedCount s + 6 ≤ length (s .log)
-  long = let e = h .sized .log-len in omega arith
-
-  count : receivedCount s′ ≡ receivedCount s + 1
-  unfolding sweptPage appended
-  count = getD-set-same (s .counts) 0 (receivedCount s + 1) 0 (let e = h .sized .counts-len in omega arith)
-
   appends : Appends n s b r (line r 0) s′ b′
   unfolding sweptPage appended
   appends = record {
     entry = refl;
     log = refl;
-    count = count;
-    stable-count = getD-set-other (s .counts) 0 1 (receivedCount s + 1) 0 (λ z. omega arith);
+    counts = refl;
     stored = refl;
     lines = refl;
     stable = refl;
-    long = long;
+    room = omega arith;
     ok = ok;
     order = refl;
   }
 
-  received-more : received s′ ≡ r ∷ received s
-  unfolding sweptPage appended
-  received-more = ap (recs (recorded (s .log) (receivedCount s) r)) count ∙ records-more (s .log) (receivedCount s) r long
-
-  open-after : (u : ℕ) → u < 16 → bit (openIn (s′ .log) (receivedCount s′)) u ≡ locksOf w n .act u
-  unfolding sweptPage appended
-  open-after u l = ap (λ (q : ℕ). bit q u) (ap (openIn (recorded (s .log) (receivedCount s) r)) count ∙ open-append (s .log) (receivedCount s) r long)
-      ∙ i .log .open-ones u l ∙ sym (act-same u)
+  open-after : (u : ℕ) → u < 16 → bit (openNext (openIn (s .log) (receivedCount s)) r) u ≡ locksOf w n .act u
+  open-after u l = i .log .open-ones u l ∙ sym (act-same u)
 
   page-free : (o : ℕ) → sweeps r o ≡ true → (t : ℕ) → locksOf (s .work) n .wr t (pageOf o) ≡ false
   unfolding pageOf
   page-free o e t = rw (← (eqb-true page (Geometry.pageOf o) (and-split (eqb page (Geometry.pageOf o)) (bit map (slotOf o)) e .0))) (unwritten t)
 
-  inv-after : Recovery.Inv (i .base) (logged n s′ b′)
+  inv-after : Recovery.Inv (i .base) (logOf (λ x. seenFull b′ x .object) (λ x. seenCommitted b′ x .object) (locksOf w n .wr) (locksOf w n .act) (r ∷ received s))
   inv-after = Recovery.carried (i .base)
-      (logOf (λ x. applied r x (seenFull b x .object)) (λ x. applied r x (seenCommitted b x .object)) (locksOf (s .work) n .wr) (locksOf (s .work) n .act) (r ∷ received s)) (logged n s′ b′)
+      (logOf (λ x. applied r x (seenFull b x .object)) (λ x. applied r x (seenCommitted b x .object)) (locksOf (s .work) n .wr) (locksOf (s .work) n .act) (r ∷ received s)) _
       (λ x. sym (ap (λ (v : Seen). v .object) (sweep-full b page map x)))
       (λ x. sym (ap (λ (v : Seen). v .object) (sweep-committed b page map x)))
-      (λ u p. sym (wr-same u p)) (λ u. sym (act-same u)) (sym (ap shapes received-more))
+      (λ u p. sym (wr-same u p)) (λ u. sym (act-same u)) refl
       (log-sweep (i .base) _ _ _ _ (received s) (i .log .inv) r refl page-free)
 
   -- an object that the record does not free is copied as before
@@ -238,7 +221,7 @@ module _ (n : ℕ) (some : 1 ≤ n) (s : Areas) (b : Book) (i : OpenInv n s b) (
       one = λ t u p e d. i .writers .one t u p (sym (wr-same t p) ∙ e) (sym (wr-same u p) ∙ d);
     };
     base = i .base;
-    log = log-after n some s b (i .base) (i .log) r (line r 0) s′ b′ appends inv-after machine-after sound open-after (rw received-more cells-after);
+    log = log-after n some s b (i .base) (i .log) h r (line r 0) s′ b′ appends inv-after machine-after sound open-after cells-after;
   }
 
   -- the slots freed were taken in the received pages

@@ -2,12 +2,12 @@
 use Prim.Native.Nat.{ℕ, suc, _*_, _≤_, _<_}
 use native.Mathlib.Omega.{arith}
 use mathlib.Core.Path.{_≡_, refl, sym, ap, _∙_, subst}
-use mathlib.Core.Bool.{true, cond, _||_}
+use mathlib.Core.Bool.{true, cond}
 use mathlib.Core.List.{List}
 use mathlib.Core.Logic.{inl, inr}
 use lib.ListN.{length}
-use lib.Dec.{eqb, leb}
-use borrow.Author.Tests.{eqb-true, le-leb, lt-ltb, leb-false}
+use lib.Dec.{eqb}
+use borrow.Author.Tests.{eqb-true, lt-ltb}
 use Rattle.words.specs.Tests.{by-bool}
 use Rattle.pages.specs.Geometry.{isRefAt}
 use Rattle.pages.specs.Objects.{wordOf}
@@ -29,14 +29,14 @@ use Rattle.collector.proofs.Invariant as Collector
 use Rattle.collector.proofs.Write.{keep-set}
 use Rattle.shown.specs.Tables.{tablesOf}
 use Rattle.shown.proofs.Areas.{reference}
-use Rattle.shown.proofs.Frames.{is-object}
 use Rattle.shown.proofs.Facts as Facts
 use Rattle.shown.proofs.Written.{writes, set-beside, set-tables}
 use Rattle.shown.proofs.Shows.{set-shows}
-use Rattle.recovery.proofs.Reversal.{view-word, set-back}
+use Rattle.views.proofs.Effects.{view-word}
+use Rattle.recovery.proofs.Reversal.{set-back}
 use Rattle.book_laws.specs.Seen.{Seen, acted, seenFull}
 use Rattle.book_laws.proofs.Acts.{set-acts}
-use Rattle.book_laws.proofs.Soundness.{set-sound}
+use Rattle.record_laws.specs.SoundRecords.{set-sound}
 use Rattle.book_laws.proofs.Invariant.{adds-inv}
 use Rattle.demand.proofs.State.{machine, OpenInv}
 use Rattle.demand.proofs.Change.{machine-shows, full-shown, Changing, change-runs, collector-after, open-change}
@@ -45,10 +45,6 @@ use Rattle.demand.proofs.Change.{machine-shows, full-shown, Changing, c
 written-at : (m t o f a v x : ℕ) (see : ℕ → Seen) → acted m (setOf t o f a v) x (see x)
     ≡ record { object = cond (eqb x o) (put (see o .object) f v) (see x .object); tag = cond (eqb x o) (stamp (see o .tag) f m) (see x .tag) }
 written-at m t o f a v x see = set-acts m x (see x) t o f a v ∙ by-bool (eqb x o) (λ e. rw (e, eqb-true x o e) refl) (λ e. rw e refl)
-
--- a word that is a reference only below 4
-word-range : (n f v : ℕ) → (f < 4 → v ≤ 16 * n) → (leb 4 f || leb v (16 * n)) ≡ true
-word-range n f v h = by-bool (leb 4 f) (λ e. rw e refl) (λ e. rw e (le-leb v (16 * n) (h (leb-false 4 f e))))
 
 module _ (n : ℕ) (some : 1 ≤ n) (s : Areas) (b : Book) (i : OpenInv n s b) (h : Open s n) (t o f v : ℕ) (g : Accepted.SetFacts s n t o f v) where
   abbrev w : List ℕ
@@ -71,9 +67,8 @@ module _ (n : ℕ) (some : 1 ≤ n) (s : Areas) (b : Book) (i : OpenInv n s b) (
     txn = refl;
     small = g .txn;
     active = g .active;
-    ok = set-sound n t (lt-ltb t 16 (g .txn)) o (is-object n o (g .object .low) (g .object .top)) f (wordOf (s .received) o f) v (lt-ltb f 8 (g .field))
-        (word-range n f (wordOf (s .received) o f) (reference (s .received) n (h .ranged .received-sound) o f (g .object .low) (g .object .top)))
-        (word-range n f v new-range);
+    ok = set-sound n t (g .txn) o (g .object .top) f (wordOf (s .received) o f) v (g .object .low) (g .field)
+        (reference (s .received) n (h .ranged .received-sound) o f (g .object .low) (g .object .top)) new-range;
     room = g .room;
     own = Facts.own-is s n (machine n s b) (machine-shows n s b) t o (g .txn) (g .object) (g .lock);
     back = set-back r (seenFull b o .object) refl (ap (λ (x : Obj). x .word f) (full-shown n some s b i o) ∙ view-word (s .received) o (g .object .low) f (g .field));

@@ -93,10 +93,10 @@ fn in_range(
     if !work_in_range(work, n, l) {
         return false;
     }
-    if !page_ops::sound::area_sound(received, n) {
+    if !page_check::sound::area_sound(received, n) {
         return false;
     }
-    if !page_ops::sound::area_sound(copies, n) {
+    if !page_check::sound::area_sound(copies, n) {
         return false;
     }
     record_ops::records_sound(log, n, counts[layout::RECEIVED] as usize)

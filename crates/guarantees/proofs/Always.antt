@@ -1,5 +1,5 @@
 -- A store is fine at every point of every list of calls and cuts. n is the number of pages. Assumes nothing.
-use Prim.Native.Nat.{ℕ, zero, suc, _+_, _*_, _-_, _≤_, _<_}
+use Prim.Native.Nat.{ℕ, zero, suc, _+_, _*_, _≤_, _<_}
 use native.Mathlib.Omega.{arith}
 use mathlib.Core.Path.{_≡_, refl, sym, ap, _∙_}
 use mathlib.Core.Bool.{Bool, true, false}
@@ -51,8 +51,8 @@ use Rattle.records.specs.Records.{setOf}
 use Rattle.collector.specs.Objects.{Obj}
 use Rattle.views.proofs.Places.{page-of-at, slot-of-at}
 use Rattle.recovery.proofs.Maps.{small-formatted}
-use Rattle.recovery.proofs.Reversal.{view-occ, view-word}
-use Rattle.book_laws.specs.Seen.{first, committedOf}
+use Rattle.views.proofs.Effects.{view-occ, view-word}
+use Rattle.book_laws.specs.Seen.{committedOf}
 use Rattle.book_laws.proofs.Folds.{formatted-length, formatted-view}
 use Rattle.book_laws.proofs.Sweeps.{sweep-kept}
 use Rattle.demand.proofs.State.{OpenInv, StoringInv, Inv3, open-store, cut-store, reopening-store}
@@ -70,11 +70,12 @@ use Rattle.demand.proofs.Passing.{open-pass, open-step}
 use Rattle.demand.proofs.Holds.{sweeping-phase}
 use Rattle.demand.proofs.HoldsWaiting.{step-entered}
 use Rattle.demand.proofs.Sweep.{open-sweep, lines-fed}
-use Rattle.demand.proofs.Cut.{zeros, zero-at}
+use Rattle.book_laws.proofs.Folds.{zeros, zero-at}
 use Rattle.demand.proofs.Reopen.{reopen-kept}
 use Rattle.demand.proofs.Restep.{restep-kept}
 use Rattle.demand.proofs.Start.{start-inv}
 use Rattle.demand.proofs.Theorem.{keep}
+use Rattle.demand.proofs.Pointing.{first-word}
 use Rattle.guarantees.proofs.Tables.{Within, set-within, word, reopening-page, read-locked-within, write-locked-within, learned-within, started-within, scanning-within, turning-within, advanced-within, clear-within}
 use Rattle.guarantees.proofs.Sound.{Firm, firm-stop}
 use Rattle.guarantees.proofs.Fine.{Fine, resized, in-range, open-fine, held-none, quiet-fine}
@@ -271,16 +272,12 @@ cut-fine n s b f =
 
 -- a freshly formatted store
 module _ (n l : ℕ) (some : 1 ≤ n) (most : n ≤ 256) (low : 1 ≤ l) (few : l ≤ 4096) where
-  zero-word : (x g : ℕ) → first x .object .word g ≡ 0
-  unfolding O.fresh O.blank
-  zero-word x g = by-bool (eqb x 1) (λ e. rw e refl) (λ e. rw e refl)
-
   no-word : (p k g : ℕ) → k < 16 → g < 8 → slotWord (formattedPages n) p k g ≡ 0
   no-word p k g h m =
       let x = objectAt p k in
       let q : pageOf x ≡ p = page-of-at p k h in
       let r : slotOf x ≡ k = slot-of-at p k h in
-      rw (q, r) at (sym (view-word (formattedPages n) x (omega arith) g m) ∙ ap (λ (o : Obj). o .word g) (formatted-view n some x) ∙ zero-word x g)
+      rw (q, r) at (sym (view-word (formattedPages n) x (omega arith) g m) ∙ ap (λ (o : Obj). o .word g) (formatted-view n some x) ∙ first-word x g)
 
   formatted-sound : areaSound (formattedPages n) n ≡ true
   unfolding O.fresh

@@ -26,7 +26,7 @@ use Rattle.areas.specs.Entry.{records, reopening}
 use Rattle.acceptance.specs.Lengths.{Sized}
 use Rattle.acceptance.specs.Entered.{Open}
 use Rattle.book.specs.Books.{Book}
-use Rattle.collector.specs.Bits.{_and_, true-and}
+use Rattle.collector.specs.Bits.{true-and}
 use Rattle.demand.proofs.State.{OpenInv}
 use Rattle.guarantees.proofs.Tables.{Within, within-rows}
 use Rattle.guarantees.proofs.Reserve.{share, held}

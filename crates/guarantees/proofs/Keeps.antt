@@ -23,7 +23,7 @@ use Rattle.records.specs.Changes.{changesLeft}
 use Rattle.records.specs.Effects.{effect}
 use Rattle.records.specs.Soundness.{recordSound}
 use Rattle.records.specs.Order.{openIn}
-use Rattle.record_laws.specs.RecordLaws.{log-sound-records, records-sound-at, recorded-same, recorded-length}
+use Rattle.record_laws.specs.RecordLaws.{sound-record, log-sound-records, records-sound-at, recorded-same, recorded-length}
 use Rattle.areas.specs.Areas.{Areas, receivedCount, stableCount, withWork, withStored, withCounts, appended}
 use Rattle.areas.specs.Layout.{unflushedAt, activeAt}
 use Rattle.areas.specs.Tables.{at, canWrite}
@@ -42,12 +42,11 @@ use Rattle.book.specs.Feeding.{adds, learns, begins}
 use Rattle.collector.proofs.Known.{known-there}
 use Rattle.collector.specs.Objects.{Obj}
 use Rattle.views.specs.View.{view}
-use Rattle.views.proofs.Sound.{sound-record}
 use Rattle.shown.specs.Tables.{locksOf}
 use Rattle.shown.proofs.Facts.{act-is, kn-is}
 use Rattle.recovery.proofs.Changes.{changes-left}
 use Rattle.recovery.proofs.Maps.{Small}
-use Rattle.recovery.proofs.Reversal.{view-occ}
+use Rattle.views.proofs.Effects.{view-occ}
 use Rattle.recovery.proofs.Reopening.{log-sound}
 use Rattle.recovery.proofs.Rolling.{Undoable, changes-undoable, rolled-rest}
 use Rattle.book_laws.specs.Seen.{Seen, committedOf, seenCommitted, seenFull}
@@ -284,8 +283,7 @@ module _ (n : ℕ) (some : 1 ≤ n) (s : Areas) (b : Book) (i : OpenInv n s b) (
       let g : length (s′ .log) ≡ length (s .log) = recorded-length (s .log) c (sweepOf p m) in
       let ok : recordSound n (sweepOf p m) ≡ true = rw (recorded-same (s .log) c (sweepOf p m) lg) at
       (records-sound-at n (s′ .log) (receivedCount s′) c (log-sound-records n (s′ .log) (receivedCount s′) (j .log .order)) (omega arith)) in
-      let spared = sound-record n (sweepOf p m) ok .spared refl in
-      let root-kept : p ≡ 0 → bit m 0 ≡ false = λ z. rw z at spared in
+      let root-kept : p ≡ 0 → bit m 0 ≡ false = sound-record n (sweepOf p m) ok .sweep-root refl in
       let hold = held-sweep (s .log) c (sweepOf p m) lg refl in
       open-fine n some s′ (sweptBy b p m) j
       (resized n s s′ (h .sized) refl (length-released-in (s .copies) p m 16) (length-released-in (s .received) p m 16) g (length-set (s .counts) 0 (c + 1)) (v .size))

@@ -16,7 +16,7 @@ use Rattle.pages.specs.Soundness.{areaSound, mapSound, refsSound, pageSound, fr
 use Rattle.records.specs.Changes.{changesLeft}
 use Rattle.records.specs.Naming.{lastNaming}
 use Rattle.records.specs.Order.{openIn}
-use Rattle.records.specs.Recovery.{recovered, recoverable}
+use Rattle.records.specs.Recovery.{recoverable}
 use Rattle.areas.specs.declared.Refusal.{Refusal}
 use Rattle.areas.specs.declared.Refusal.the-variants.{OutOfRange, WrongState, NotLocked, Held, Unknown, Occupied, Differs, Unflushed, LogFull, Unstable, InUse, Unsound}
 use Rattle.areas.specs.declared.Check.{Check}
@@ -41,20 +41,15 @@ use Rattle.calls.specs.Calls.Call.{begin, commit, abort, lockRead, lockWrite, r
 use Rattle.acceptance.specs.Entered.{opened}
 use Rattle.acceptance.specs.Lengths.{Sized}
 use Rattle.acceptance.specs.Pass.{scanning, turning, sweepMapOf, sweeping, stepped}
-use Rattle.book.specs.Lines.{pagesAfter}
 use Rattle.book.specs.Books.{Book, storing, committedLines, committedPages, stopped}
 use Rattle.book.specs.Demand.{Event, Point, after, start}
-use Rattle.recovery.proofs.Maps.{small-sound, small-recovered}
-use Rattle.recovery.proofs.Reopening.{length-recovered, recovered-view}
-use Rattle.book_laws.specs.Seen.{Seen, committedOf}
-use Rattle.book_laws.proofs.Pages.{stop-one}
+use Rattle.book_laws.specs.Seen.{committedOf}
 use Rattle.demand.proofs.State.{machine, Waiting, Inv3}
-use Rattle.demand.proofs.Shared.{full-ext}
-use Rattle.demand.proofs.HoldsWaiting.{idle-full}
 use Rattle.demand.proofs.Change.{machine-shows}
 use Rattle.demand.proofs.Stopping.{stops}
 use Rattle.shown.proofs.Facts.{act-is}
 use Rattle.recovery.proofs.Changes.{changes-left}
+use Rattle.demand.proofs.Reopen.{recovered-committed}
 use Rattle.guarantees.specs.Points.{AtEvery, last, then, Always}
 use Rattle.guarantees.specs.Refusals.{Reopenable, NeverUnsound, Endable, RoomToEnd, ownFits, WellFormed, NeverMalformed}
 use Rattle.guarantees.proofs.Fine.{Fine}
@@ -100,17 +95,9 @@ module _ (n : ℕ) (some : 1 ≤ n) (s : Areas) (b : Book) (i : Inv3 n s b) (f :
   waits : Waiting n s b′
   waits = stops n some s b (storing 0) i
 
-  recovered-committed : recovered (s .stored) (s .log) (stableCount s) ≡ committedPages n b′
-  recovered-committed = let g = waits .order in let l = f .sized .stored-len in
-      full-ext n some b′ (waits .sound) (recovered (s .stored) (s .log) (stableCount s))
-      (length-recovered n (s .stored) (s .log) (stableCount s) l g)
-      (small-recovered n (s .stored) (s .log) (stableCount s) l (small-sound n (s .stored) (f .stored)) g)
-      (λ x. recovered-view n (s .stored) (s .log) (stableCount s) l g x ∙ waits .gives x ∙ sym (ap (λ (v : Seen). v .object) (stop-one (storing 0) b x)))
-      ∙ ap (pagesAfter n) (idle-full b′ (waits .idle))
-
   recovers : recoverable n (s .stored) (s .log) (stableCount s) ≡ true
   unfolding recoverable committedLines committedOf
-  recovers = rw (f .stored, waits .order, recovered-committed) (free-all n (committedPages n b′) (firm-stop n (storing 0) b (f .firm) 0 (omega arith)))
+  recovers = rw (f .stored, waits .order, recovered-committed n some s b i (f .sized .stored-len) (f .stored)) (free-all n (committedPages n b′) (firm-stop n (storing 0) b (f .firm) 0 (omega arith)))
 
   reopenable : accepted (callReopen s .answer) ≡ true
   unfolding callReopen reopenCheck

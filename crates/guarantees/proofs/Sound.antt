@@ -20,7 +20,7 @@ use Rattle.collector.specs.Objects.{Obj}
 use Rattle.views.specs.View.{view}
 use Rattle.views.proofs.Places.{page-of-at, slot-of-at}
 use Rattle.recovery.proofs.Maps.{Small}
-use Rattle.recovery.proofs.Reversal.{view-occ, view-word}
+use Rattle.views.proofs.Effects.{view-occ, view-word}
 use Rattle.book_laws.specs.Seen.{counted, committedOf}
 use Rattle.book_laws.proofs.Committed.{filtered-same, Alike}
 use Rattle.book_laws.proofs.Pages.{committed-of}

@@ -5,8 +5,7 @@ use mathlib.Core.Path.{_≡_, refl, sym, ap, _∙_}
 use mathlib.Core.Bool.{Bool, true, false, not, _&&_, _||_}
 use mathlib.Core.List.{List, [], _∷_}
 use lib.Dec.{ltb}
-use borrow.Author.Tests.{ltb-true}
-use Rattle.words.specs.Tests.{if, if-t, if-f, and-split, and-true, and-false}
+use Rattle.words.specs.Tests.{if, if-t, if-f, and-true, and-comm}
 use Rattle.areas.specs.declared.Refusal.the-variants.{OutOfRange, WrongState, Held}
 use Rattle.areas.specs.declared.Check.{Check}
 use Rattle.areas.specs.declared.Check.the-variants.{Accept, Refuse}
@@ -18,6 +17,7 @@ use Rattle.areas.specs.Tables.{gain, lose, isTxn, isActive, canWrite}
 use Rattle.calls.specs.Locks.{noOther, lockReadTests, readLocked, lockWriteTests, writeLocked}
 use Rattle.locks.specs.declared.Way.{Way}
 use Rattle.locks.specs.declared.Way.the-variants.{Clear, Barred}
+use Rattle.store_ops.specs.Tables.{page-range}
 
 -- nobody but t writes the page, nor reads it where t wants to write
 abbrev pub isFree : List ℕ → ℕ → ℕ → ℕ → Bool → Bool
@@ -60,9 +60,6 @@ module _ (w : List ℕ) (n t p : ℕ) (writing : Bool) where
   unfolding lockTests
   lock-outside h = need-fails _ _ _ _ h
 
-  pub lock-inside : isTxn t && ltb p n ≡ true → (t < txnCount) × (p < n)
-  lock-inside h = let q = and-split (isTxn t) (ltb p n) h in (ltb-true _ _ (q .0), ltb-true _ _ (q .1))
-
   pub lock-inactive : isTxn t && ltb p n ≡ true → isActive w t ≡ false → Refuse WrongState ≡ verdict (lockTests w n t p writing)
   unfolding lockTests
   lock-inactive h a = need-fails _ _ _ _ a ∙ need-holds _ _ _ _ h
@@ -73,13 +70,9 @@ module _ (w : List ℕ) (n t p : ℕ) (writing : Bool) where
 
   pub lock-passed : verdict (lockTests w n t p writing) ≡ Accept → (t < txnCount) × (p < n)
   unfolding lockTests
-  lock-passed h = lock-inside (passed _ 0 h)
+  lock-passed h = page-range n t p (passed _ 0 h)
 
 -- the tests of each call
-and-comm : (a b : Bool) → a && b ≡ b && a
-and-comm true b = sym (and-true b)
-and-comm false b = sym (and-false b)
-
 pub lock-read-as : (s : Areas) (n t p : ℕ) → lockTests (s .work) n t p false ≡ lockReadTests s n t p
 unfolding lockTests lockReadTests
 lock-read-as s n t p = rw (and-true (noOther (s .work) (writersAt n p) t))

@@ -9,7 +9,7 @@ ghost use Rattle.locks.specs.Checks.{wayTo, lockTests};
 use areas::Check;
 use areas::Refusal;
 use areas::layout;
-use page_ops::bits;
+use bit_ops::bits;
 use records::TXNS;
 
 // What another transaction's locks leave of the way to a lock.

@@ -3,7 +3,6 @@ use Prim.Native.Nat.{ℕ, _*_, _<_, _≤_}
 use mathlib.Core.Path.{_≡_, refl}
 use mathlib.Core.Bool.{true, _&&_}
 use mathlib.Core.List.{List, []}
-use lib.Dec.{ltb}
 use borrow.Author.Tests.{ltb-true}
 use Rattle.words.specs.Tests.{and-split}
 use Rattle.pages.specs.Geometry.{isRefAt, isObject}
@@ -15,9 +14,6 @@ use Rattle.acceptance.specs.Objects.{object-facts}
 
 pub object-range : (n t o : ℕ) → isTxn t && isObject n o ≡ true → (t < 16) × (1 ≤ o) × (o ≤ 16 * n)
 object-range n t o h = let p = and-split (isTxn t) (isObject n o) h in let b = object-facts n o (p .1) in (ltb-true _ _ (p .0), b .low, b .top)
-
-pub page-range : (n t p : ℕ) → isTxn t && ltb p n ≡ true → (t < 16) × (p < n)
-page-range n t p h = let q = and-split (isTxn t) (ltb p n) h in (ltb-true _ _ (q .0), ltb-true _ _ (q .1))
 
 -- the areas that the tests look at
 module _ (s c r g k w : List ℕ) (n t : ℕ) where

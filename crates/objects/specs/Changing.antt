@@ -23,7 +23,7 @@ use Rattle.calls.specs.Objects.{createCheck, setCheck, pruned, prunes}
 use Rattle.acceptance.specs.Entered.{Open, opened}
 use Rattle.acceptance.specs.Objects.{create-facts, SetFacts, set-facts, known-facts}
 use Rattle.store_ops.specs.Logs.{Fits, open-fits}
-use Rattle.store_ops.specs.Kinds.{create-sound, set-sound}
+use Rattle.record_laws.specs.SoundRecords.{create-sound, set-sound}
 use Rattle.object_checks.specs.Tests.{create-looks, set-looks}
 
 -- 't knows it and the COT gains it for t', and its page has a record not flushed

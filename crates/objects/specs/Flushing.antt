@@ -23,7 +23,7 @@ use Rattle.acceptance.specs.Entered.{opened}
 use Rattle.acceptance.specs.Objects.{flush-facts}
 use Rattle.object_checks.specs.Tests.{flush-looks}
 use Rattle.page_laws.specs.Places.{Holds, area-ext, map-put-map, word-put-map, length-copy, map-copy, word-copy, length-rows, map-rows, word-rows}
-use Rattle.page_ops.specs.RoundTrip.{rows-full, rows-at, row-at}
+use Rattle.page_rows.specs.RoundTrip.{rows-full, rows-at, row-at}
 
 -- the map of a page and its table of rows, written into another area, are the page
 pub page-by-rows : (from to : List ℕ) (p : ℕ) → Holds from p → Holds to p

@@ -17,7 +17,7 @@ use Rattle.pages.specs.Objects.{wordOf}
 use Rattle.pages.specs.Soundness.{areaSound}
 use Rattle.page_laws.specs.Runs.{fill-turn}
 use Rattle.page_laws.specs.SoundFacts.{ref-in-range}
-use Rattle.page_ops.specs.RoundTrip.{row-at}
+use Rattle.page_rows.specs.RoundTrip.{row-at}
 use Rattle.areas.specs.declared.Refusal.{Refusal}
 use Rattle.areas.specs.declared.Answer.the-variants.{Done, Refused}
 use Rattle.areas.specs.declared.Check.the-variants.{Pass, Refuse}

@@ -9,7 +9,7 @@ ghost use Rattle.calls.specs.Objects.{callFlush};
 use areas::Answer;
 use areas::Check;
 use areas::Ready;
-use page_ops::rows;
+use page_rows::rows;
 
 // Page p of the received pages, into the copies: its map, and its rows by value.
 fn copy_rows(received: &[u32], copies: &mut [u32], p: usize)

@@ -9,7 +9,7 @@ use lib.ListN.{getD}
 use native.Mathlib.Nat.{add-zero}
 use native.Mathlib.Omega.{arith}
 use borrow.Author.Tests.{le-leb}
-use Rattle.words.specs.Tests.{all, all-both, all-same, all-intro, and-t, or-r, and-true, and-false, and-assoc, and-swap, and-cong, all-next}
+use Rattle.words.specs.Tests.{all, all-both, all-same, all-intro, and-t, or-r, and-true, and-false, and-assoc, and-swap, and-cong, all-next, and-comm}
 use Rattle.pages.specs.Geometry.{slotCount, slotWords, slotAt, objectCount, refWords, isRefAt}
 use Rattle.pages.specs.Objects.{taken, slotWord}
 use Rattle.pages.specs.Soundness.{mapSound, refSound, refsSound, slotZero, freeZero, pageSound}
@@ -43,10 +43,6 @@ takenOrZero a p s = taken a p s || slotZero a p s
 -- 'a reference above 16 × P; a free slot not zero', of slot s of page p
 unfoldable pub slotSound : List ℕ → ℕ → ℕ → ℕ → Bool
 slotSound a top p s = all (refUpTo a top p s) slotWords && takenOrZero a p s
-
-and-comm : (a b : Bool) → a && b ≡ b && a
-and-comm true b = sym (and-true b)
-and-comm false b = sym (and-false b)
 
 -- the bits of free in a word
 pub free-none : (v : ℕ) (t : Bool) → v < 2 ^ 32 → eqb (bitAnd v (freeBits t)) 0 ≡ t || eqb v 0

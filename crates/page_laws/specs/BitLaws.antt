@@ -1,16 +1,15 @@
 -- What the code does to words, as the bits of the definitions. Assumes nothing.
 use Prim.Native.Nat.{ℕ, zero, suc, _+_, _*_, _-_, _/_, _%_, _^_, _<_, _≤_, min}
 use mathlib.Core.Path.{_≡_, refl, sym, ap, _∙_}
-use mathlib.Core.Bool.{Bool, false, not, _&&_}
+use mathlib.Core.Bool.{Bool, not, _&&_}
 use lib.Dec.{eqb, ltb}
 use lib.Bits.{bitOr, and-step, or-step, or-zero-r, or-add-and, and-le-l, and-le-r}
-use lib.Pow.{pow-mono}
 use native.Mathlib.Nat.{pow-suc, min-le-left}
 use native.Mathlib.Decide.{ℕ-discrete}
 use native.Mathlib.Omega.{arith}
 use borrow.Author.Tests.{eqb-true, eq-eqb, eqb-false, ltb-true, ltb-false, lt-ltb, le-ltb}
 use Rattle.words.specs.Tests.{if, by-bool, clash, and-true, and-false}
-use Rattle.words.specs.Bits.{bit, withBit, withoutBit, bit-low, bit-next, bit-le, without-same, without-other, without-le}
+use Rattle.words.specs.Bits.{bit, withBit, withoutBit, bit-low, bit-next, bit-le, without-same, without-other, without-le, bit-above, bits-same}
 use Rattle.pages.specs.Geometry.{slotCount}
 
 by-digit : (P : ℕ → Type 0) → P 0 → P 1 → (x : ℕ) → x < 2 → P x
@@ -78,24 +77,6 @@ clear-bit w m (suc k) j = elim (ℕ-discrete j k) [
       (λ e. rw (e, clear-bit w m k j, s))
 ]
 
--- two words with the same bits are the same
-pub bits-ext : (k a b : ℕ) → a < 2 ^ k → b < 2 ^ k → ((j : ℕ) → bit a j ≡ bit b j) → a ≡ b
-bits-ext zero a b ha hb h = omega arith
-bits-ext (suc k) a b ha hb h =
-    let la : a < 2 ^ k * 2 = rw (← (pow-suc 2 k)) ha in
-    let lb : b < 2 ^ k * 2 = rw (← (pow-suc 2 k)) hb in
-    let q : a / 2 ≡ b / 2 = bits-ext k (a / 2) (b / 2) (omega arith) (omega arith) (λ j. sym (bit-next a j) ∙ h (suc j) ∙ bit-next b j) in
-    let r : a % 2 ≡ b % 2 = same-low (a % 2) (b % 2) (omega arith) (omega arith) (sym (bit-low a) ∙ h 0 ∙ bit-low b) in
-    omega arith
-  where
-    same-low : (x y : ℕ) → x < 2 → y < 2 → eqb x 1 ≡ eqb y 1 → x ≡ y
-    same-low x y hx hy = by-digit (λ (x : ℕ). eqb x 1 ≡ eqb y 1 → x ≡ y)
-        (by-digit (λ (y : ℕ). eqb 0 1 ≡ eqb y 1 → 0 ≡ y) (λ e. refl) (λ e. clash e refl) y hy)
-        (by-digit (λ (y : ℕ). eqb 1 1 ≡ eqb y 1 → 1 ≡ y) (λ e. clash refl e) (λ e. refl) y hy) x hx
-
-pub bit-above : (m k j : ℕ) → m < 2 ^ k → k ≤ j → bit m j ≡ false
-bit-above m k j h l = by-bool (bit m j) (λ e. let a = bit-le m j e in let b = pow-mono {i = k} {j = j} l in absurd (omega arith)) (λ e. e)
-
 -- the bits of a word from which the bits of another are taken, once they are all there
 less-step : (w m : ℕ) → bitOr w m - m ≡ 2 * (bitOr (w / 2) (m / 2) - m / 2) + (w % 2 - min (w % 2) (m % 2))
 less-step w m = let a = or-add-and w m in let b = or-add-and (w / 2) (m / 2) in let s = and-step w m in
@@ -115,9 +96,9 @@ less-bit w m (suc j) = bit-next (bitOr w m - m) j
     ∙ less-bit (w / 2) (m / 2) j ∙ rw (bit-next w j, bit-next m j)
 
 pub clear-or : (w m : ℕ) → w < 2 ^ 32 → m < 2 ^ slotCount → bitOr w m - m ≡ clearBits w m slotCount
-clear-or w m hw hm = bits-ext 32 (bitOr w m - m) (clearBits w m slotCount)
+clear-or w m hw hm = bits-same 32 (bitOr w m - m) (clearBits w m slotCount)
     (let a = or-add-and w m in omega arith) (let c = clear-le w m slotCount in omega arith)
-    (λ j. less-bit w m j ∙ sym (clear-bit w m slotCount j ∙ ap (λ (t : Bool). bit w j && not t) (low j)))
+    (λ j l. less-bit w m j ∙ sym (clear-bit w m slotCount j ∙ ap (λ (t : Bool). bit w j && not t) (low j)))
   where
     low : (j : ℕ) → (ltb j slotCount && bit m j) ≡ bit m j
-    low j = by-bool (ltb j slotCount) (λ e. rw e) (λ e. rw (e, bit-above m slotCount j hm (ltb-false j slotCount e)))
+    low j = by-bool (ltb j slotCount) (λ e. rw e) (λ e. rw (e, bit-above slotCount m j hm (ltb-false j slotCount e)))

@@ -6,14 +6,14 @@ use mathlib.Core.Bool.{Bool, true, false, _&&_, _||_}
 use mathlib.Core.List.{List, []}
 use lib.ListN.{length, getD, set, length-set}
 use lib.Seq.{getD-set-same, getD-set-other, ext-getD, length-paste}
-use lib.Dec.{eqb, ltb}
+use lib.Dec.{eqb, leb, ltb}
 use native.Mathlib.Decide.{ℕ-discrete}
 use native.Mathlib.Omega.{arith}
-use borrow.Author.Tests.{eqb-true, eqb-false, eq-eqb, lt-ltb, le-ltb}
+use borrow.Author.Tests.{eqb-true, eqb-false, eq-eqb, leb-true, lt-ltb, le-ltb}
 use Rattle.words.specs.Tests.{if, by-bool, clash, and-l, and-r, and-false}
 use Rattle.words.specs.Bits.{bit, withoutBit}
 use Rattle.words.specs.Spans.{fill, length-fill, fill-inside, fill-outside}
-use Rattle.pages.specs.Geometry.{pageWords, slotCount, slotWords, headWords, pageAt, slotAt}
+use Rattle.pages.specs.Geometry.{pageWords, slotCount, slotWords, headWords, pageAt, slotAt, objectCount, isObject}
 use Rattle.pages.specs.Objects.{mapAt, slotWord, cleared, freedSlot, releasedIn, copiedPage}
 use Rattle.pages.specs.Table.{withRows}
 use Rattle.page_laws.specs.BitLaws.{clearBits, below-suc}
@@ -33,6 +33,9 @@ same-slot p s f q t g hs hf ht hg e =
 
 pub slot-no-map : (p s f q : ℕ) → s < slotCount → f < slotWords → slotAt p s f ≡ pageAt q → ⊥
 slot-no-map p s f q hs hf e = let h = same-page p q (headWords + slotWords * s + f) 0 (omega arith) (omega arith) (omega arith) in omega arith
+
+pub object-range : (n o : ℕ) → isObject n o ≡ true → (1 ≤ o) × (o ≤ objectCount n)
+object-range n o h = (leb-true 1 o (and-l (leb 1 o) (leb o (objectCount n)) h), leb-true o (objectCount n) (and-r (leb 1 o) (leb o (objectCount n)) h))
 
 pub area-ext : (a b : List ℕ) → length a ≡ length b → ((p : ℕ) → mapAt a p ≡ mapAt b p)
     → ((p s f : ℕ) → s < slotCount → f < slotWords → slotWord a p s f ≡ slotWord b p s f) → a ≡ b

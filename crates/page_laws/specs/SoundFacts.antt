@@ -3,17 +3,17 @@ use Prim.Native.Nat.{ℕ, _*_, _<_, _≤_, _^_}
 use mathlib.Core.Path.{_≡_, sym, ap, _∙_}
 use mathlib.Core.Bool.{Bool, true, false, not, _&&_, _||_}
 use mathlib.Core.List.{List}
-use lib.ListN.{length, getD, List·getD-eq-default}
+use lib.ListN.{length}
 use lib.Dec.{eqb, ltb}
 use native.Mathlib.Omega.{arith}
-use borrow.Author.Tests.{eqb-true, eq-eqb, leb-true, le-leb, ltb-true, ltb-false}
+use borrow.Author.Tests.{eqb-true, eq-eqb, leb-true, le-leb}
 use Rattle.words.specs.Tests.{if, all, all-at, all-intro, by-bool, clash, and-split, and-r, and-t, and-true}
 use Rattle.words.specs.Bits.{bit, withBit, with-lt, with-other}
 use Rattle.pages.specs.Geometry.{pageWords, slotCount, slotWords, mapTop, objectCount, pageAt, slotAt, pageOf, slotOf, objectAt, root, isRefAt, isRef}
 use Rattle.pages.specs.Objects.{mapAt, taken, slotWord, occupied, wordOf, takenSlot, occupy, written, released, copiedPage}
 use Rattle.pages.specs.Soundness.{mapSound, refSound, refsSound, slotZero, freeZero, pageSound, areaSound}
-use Rattle.page_laws.specs.BitLaws.{clear-le, clear-bit, bit-above, bits-ext}
-use Rattle.page_laws.specs.Places.{area-ext, both-true, putSlot, map-put, word-put, map-set, word-set, map-released-in, word-released-in, map-copy, word-copy}
+use Rattle.page_laws.specs.BitLaws.{clear-le, clear-bit}
+use Rattle.page_laws.specs.Places.{both-true, putSlot, map-put, word-put, map-set, word-set, map-released-in, word-released-in, map-copy, word-copy}
 use Rattle.page_laws.specs.ViewLaws.{occupied-occupy, occupied-written, occupied-released, occupied-copied}
 
 -- the facts, page by page
@@ -174,31 +174,3 @@ copied-sound n from to p lf lt hp sf st =
 
     taken-to : (q t : ℕ) → eqb q p ≡ false → taken (copiedPage from to p) q t ≡ taken to q t
     taken-to q t e = ap (λ (w : ℕ). bit w t) (map-copy from to p (omega arith) (omega arith) q ∙ rw e)
-
--- two sound areas with the same objects are the same
-pub objects-ext : (n : ℕ) (a b : List ℕ) → length a ≡ pageWords * n → length b ≡ pageWords * n → areaSound a n ≡ true → areaSound b n ≡ true
-    → ((x : ℕ) → 1 ≤ x → x ≤ objectCount n → occupied a x ≡ occupied b x)
-    → ((x f : ℕ) → 1 ≤ x → x ≤ objectCount n → f < slotWords → wordOf a x f ≡ wordOf b x f) → a ≡ b
-objects-ext n a b la lb sa sb occ word = area-ext a b (la ∙ sym lb) maps words
-  where
-    past : (i : ℕ) → pageWords * n ≤ i → getD a i 0 ≡ getD b i 0
-    past i l = List·getD-eq-default a 0 {n = i} (omega arith) ∙ sym (List·getD-eq-default b 0 {n = i} (omega arith))
-
-    bits : (p : ℕ) → p < n → (j : ℕ) → taken a p j ≡ taken b p j
-    bits p hp j = by-bool (ltb j slotCount)
-        (λ e. let l = ltb-true j slotCount e in
-        let q : pageOf (objectAt p j) ≡ p = omega arith in let s : slotOf (objectAt p j) ≡ j = omega arith in
-        rw (q, s) at (occ (objectAt p j) (omega arith) (omega arith)))
-        (λ e. let l = ltb-false j slotCount e in bit-above (mapAt a p) slotCount j (sound-facts a n sa .map p hp) l ∙ sym (bit-above (mapAt b p) slotCount j (sound-facts b n sb .map p hp) l))
-
-    maps : (p : ℕ) → mapAt a p ≡ mapAt b p
-    maps p = by-bool (ltb p n)
-        (λ e. let l = ltb-true p n e in bits-ext slotCount (mapAt a p) (mapAt b p) (sound-facts a n sa .map p l) (sound-facts b n sb .map p l) (bits p l))
-        (λ e. let l = ltb-false p n e in past (pageAt p) (omega arith))
-
-    words : (p s f : ℕ) → s < slotCount → f < slotWords → slotWord a p s f ≡ slotWord b p s f
-    words p s f hs hf = by-bool (ltb p n)
-        (λ e. let l = ltb-true p n e in
-        let q : pageOf (objectAt p s) ≡ p = omega arith in let t : slotOf (objectAt p s) ≡ s = omega arith in
-        rw (q, t) at (word (objectAt p s) f (omega arith) (omega arith) hf))
-        (λ e. let l = ltb-false p n e in past (slotAt p s f) (omega arith))

@@ -2,7 +2,7 @@
 -- Assumes nothing.
 use Prim.Native.Nat.{ℕ, _*_, _<_, _≤_}
 use mathlib.Core.Path.{_≡_, refl, sym, ap, _∙_}
-use mathlib.Core.Bool.{Bool, true, false, not, _&&_}
+use mathlib.Core.Bool.{Bool, true, not, _&&_}
 use mathlib.Core.List.{List}
 use lib.ListN.{length}
 use lib.Dec.{eqb}
@@ -13,7 +13,7 @@ use Rattle.words.specs.Bits.{bit, withBit, withoutBit, with-same, with-other, w
 use Rattle.pages.specs.Geometry.{pageWords, slotCount, slotWords, objectCount, pageOf, slotOf}
 use Rattle.pages.specs.Objects.{mapAt, occupied, wordOf, takenSlot, freedSlot, occupy, release, written, released, copiedPage}
 use Rattle.page_laws.specs.BitLaws.{clear-bit}
-use Rattle.page_laws.specs.Places.{Holds, putSlot, length-put, map-put, map-set, length-released-in, map-released-in, length-copy, map-copy, word-copy}
+use Rattle.page_laws.specs.Places.{Holds, putSlot, length-put, map-put, map-set, map-released-in, length-copy, map-copy, word-copy}
 
 -- the slots of a page, occupied or freed
 
@@ -45,10 +45,6 @@ module _ (n : ℕ) (a : List ℕ) (o : ℕ) (len : length a ≡ pageWords * n) (
   unfolding takenSlot
   occupied-occupy x hx = bit-put (withBit (mapAt a (pageOf o)) (slotOf o)) x hx true (with-same _ _) (with-other _ _)
 
-  pub occupied-release : (x : ℕ) → 1 ≤ x → occupied (release a o) x ≡ if (eqb x o) false (occupied a x)
-  unfolding freedSlot
-  occupied-release x hx = bit-put (withoutBit (mapAt a (pageOf o)) (slotOf o)) x hx false (without-same _ _) (without-other _ _)
-
   -- a word written
 
   pub occupied-written : (f v : ℕ) → f < slotWords → (x : ℕ) → occupied (written a o f v) x ≡ occupied a x
@@ -57,9 +53,6 @@ module _ (n : ℕ) (a : List ℕ) (o : ℕ) (len : length a ≡ pageWords * n) (
 -- the slots of a page's map freed
 
 module _ (n : ℕ) (a : List ℕ) (p m : ℕ) (len : length a ≡ pageWords * n) (hp : p < n) where
-  pub length-released : length (released a p m) ≡ pageWords * n
-  length-released = length-released-in a p m slotCount ∙ len
-
   pub occupied-released : (x : ℕ) → occupied (released a p m) x ≡ (occupied a x && not (eqb (pageOf x) p && bit m (slotOf x)))
   occupied-released x = ap (λ (w : ℕ). bit w (slotOf x)) (map-released-in a p m (omega arith) slotCount (pageOf x) (omega arith)) ∙ by-bool (eqb (pageOf x) p)
       (λ e. rw (e, eqb-true (pageOf x) p e) (clear-bit (mapAt a p) m slotCount (slotOf x) ∙ rw (lt-ltb (slotOf x) slotCount (omega arith))))

@@ -57,7 +57,7 @@ length-undone a r = by-bool (eqb (r .kind) 2)
     (λ x. rw (e, f, x))))
 
 -- one of two areas of the same length
-length-if : (b : Bool) (x y : List ℕ) → length x ≡ length y → length (if b x y) ≡ length y
+pub length-if : (b : Bool) (x y : List ℕ) → length x ≡ length y → length (if b x y) ≡ length y
 length-if true x y p = p
 length-if false x y p = refl
 

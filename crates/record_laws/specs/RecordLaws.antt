@@ -12,11 +12,12 @@ use native.Mathlib.Decide.{ℕ-discrete}
 use native.Mathlib.Numerals.{add-one}
 use native.Mathlib.Omega.{arith}
 use borrow.Author.Tests.{ltb-true, leb-true, eqb-true, eqb-false, lt-ltb, le-leb, eq-eqb, ne-eqb, not-true, lt-leb}
-use Rattle.words.specs.Tests.{if, all, any, by-bool, clash, if-t, if-f, and-t, and-f, and-false, and-l, and-r, or-cases, or-false-l, or-false-r, all-at, all-end, all-next, all-stop, all-same, all-intro, any-next}
-use Rattle.words.specs.Bits.{bit, with-lt, without-le}
+use Rattle.words.specs.Tests.{if, all, any, by-bool, clash, if-t, if-f, and-t, and-f, and-false, and-l, and-r, or-cases, or-false-l, or-false-r, all-at, all-end, all-next, all-stop, all-intro, any-next}
+use Rattle.words.specs.Bits.{bit}
 use Rattle.pages.specs.Geometry.{isObject}
+use Rattle.page_laws.specs.Places.{object-range}
 use Rattle.records.specs.declared.Record.{Record}
-use Rattle.records.specs.Records.{made, recordAt, recorded, isBegin, isChange, isEnd, isSweep}
+use Rattle.records.specs.Records.{made, recordAt, recorded, isBegin, isChange, isSweep}
 use Rattle.records.specs.Soundness.{txnSound, namesObject, objectSound, fieldSound, newSound, referenceSound, wordSound, recordSound, recordsSound}
 use Rattle.records.specs.Order.{openNext, openIn, inOrder, logSound}
 use Rattle.records.specs.Changes.{changesIn}
@@ -191,9 +192,7 @@ pub record SoundRecord (n : ℕ) (r : Record) : Type 0 where
 
 -- an object that a record names, and one that is not the root
 named : (n o : ℕ) (x : Bool) → isObject n o && x ≡ true → (1 ≤ o) × (o ≤ 16 * n)
-named n o x h =
-    let p = and-l (isObject n o) x h in
-    (leb-true 1 o (and-l (leb 1 o) (leb o (16 * n)) p), leb-true o (16 * n) (and-r (leb 1 o) (leb o (16 * n)) p))
+named n o x h = object-range n o (and-l (isObject n o) x h)
 
 named-not-root : (n o : ℕ) → isObject n o && not (eqb o 1) ≡ true → (1 < o) × (o ≤ 16 * n)
 named-not-root n o h =
@@ -280,19 +279,6 @@ pub open-next : (g : List ℕ) (i m : ℕ) (r : Record) → m ≡ openIn g i →
 unfolding openIn
 open-next g i m r e f = ap (λ (x : ℕ). openNext x r) e ∙ ap (openNext (openIn g i)) f ∙ ap (openIn g) (sym (add-one i))
 
-pub open-below : (m : ℕ) (r : Record) → m < 65536 → r .txn < 16 → openNext m r < 65536
-open-below m r h l = by-bool (eqb (r .kind) 1)
-    (λ e. rw e (with-lt m (r .txn) 16 h l))
-    (λ e. by-bool (isEnd r) (λ f. rw (e, f) (let k = without-le m (r .txn) in omega arith)) (λ f. rw (e, f) h))
-
-pub open-in-below : (n : ℕ) (g : List ℕ) (c : ℕ) → recordsSound n g c ≡ true → openIn g c < 65536
-unfolding openIn
-open-in-below n g c h = below c (λ i l. record-facts n g c i (recordAt g i) refl h l .txn-below)
-  where
-    below : (c : ℕ) → ((i : ℕ) → i < c → recordAt g i .txn < 16) → openIn g c < 65536
-    below zero t = omega arith
-    below (suc i) t = open-below (openIn g i) (recordAt g i) (below i (λ j l. t j (omega arith))) (t i (omega arith))
-
 -- the test that logSound makes of record i
 abbrev pub nextSound : ℕ → List ℕ → ℕ → Bool
 nextSound n g i = recordSound n (recordAt g i) && inOrder (openIn g i) (recordAt g i)
@@ -320,6 +306,14 @@ begunIn g t c = any (λ i. isBegin (recordAt g i) t) c
 
 abbrev pub changesNext : ℕ → ℕ → Record → List ℕ → List ℕ
 changesNext t i r before = if (isBegin r t) [] (if (isChange r t) (i ∷ before) before)
+
+-- at most one for each record
+pub changes-le : (g : List ℕ) (t c : ℕ) → length (changesIn g t c) ≤ c
+unfolding changesIn
+changes-le g t zero = omega arith
+changes-le g t (suc i) = let r = recordAt g i in let h = changes-le g t i in by-bool (isBegin r t)
+    (λ e. rw e (omega arith))
+    (λ e. by-bool (isChange r t) (λ f. rw (e, f) (omega arith)) (λ f. rw (e, f) (omega arith)))
 
 pub changes-next : (g : List ℕ) (t i : ℕ) → changesNext t i (recordAt g i) (changesIn g t i) ≡ changesIn g t (i + 1)
 unfolding changesIn
@@ -353,10 +347,6 @@ pub recorded-agrees : (g : List ℕ) (i : ℕ) (r : Record) (c : ℕ) → c ≤ 
 recorded-agrees g i r c l j k = recorded-other g i r j (λ e. omega arith)
 
 module _ (g h : List ℕ) where
-  pub records-sound-same : (n c : ℕ) → Agree g h c → recordsSound n g c ≡ recordsSound n h c
-  unfolding recordsSound
-  records-sound-same n c a = all-same _ _ c (λ i l. ap (recordSound n) (a i l))
-
   pub open-same : (c : ℕ) → Agree g h c → openIn g c ≡ openIn h c
   unfolding openIn
   open-same zero a = refl
@@ -379,12 +369,6 @@ module _ (g h : List ℕ) where
 module _ (g : List ℕ) (c : ℕ) (r : Record) (h : 6 * c + 6 ≤ length g) where
   same-before : Agree (recorded g c r) g c
   same-before = recorded-agrees g c r c (omega arith)
-
-  pub records-sound-append : (n : ℕ) → recordsSound n (recorded g c r) (c + 1) ≡ recordsSound n g c && recordSound n r
-  records-sound-append n =
-      sym (records-sound-next n (recorded g c r) c)
-      ∙ ap (λ (b : Bool). b && recordSound n (recordAt (recorded g c r) c)) (records-sound-same (recorded g c r) g n c same-before)
-      ∙ ap (λ (s : Record). recordsSound n g c && recordSound n s) (recorded-same g c r h)
 
   pub open-append : openIn (recorded g c r) (c + 1) ≡ openNext (openIn g c) r
   open-append = sym (open-next (recorded g c r) c (openIn g c) r (sym (open-same (recorded g c r) g c same-before)) (sym (recorded-same g c r h)))

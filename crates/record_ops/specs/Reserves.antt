@@ -13,8 +13,9 @@ use borrow.Author.Tests.{eq-eqb, ne-eqb}
 use Rattle.words.specs.Tests.{if, any, sum, by-bool, if-t, if-f, sum-next}
 use Rattle.words.specs.Bits.{bit}
 use Rattle.records.specs.declared.Record.{Record}
-use Rattle.records.specs.Records.{recordAt, isBegin, isChange}
+use Rattle.records.specs.Records.{recordAt, isBegin}
 use Rattle.records.specs.Changes.{changesIn, changesLeft, reserveOf}
+use Rattle.record_laws.specs.RecordLaws.{changes-le}
 
 -- what one more record of kind k makes of its transaction's share: 0 where it has not begun, else 1 and its creates and sets since
 abbrev pub shareNext : ℕ → ℕ → ℕ
@@ -82,14 +83,6 @@ shares-at g (suc i) t h =
           ∙ sym (share-next g i t ∙ if-t _ _ _ (eq-eqb p t (sym q))))
       | no q ↦ (getD-set-other l p t v 0 q ∙ shares-at g i t h ∙ sym (share-next g i t ∙ if-f _ _ _ (ne-eqb p t (λ e. q (sym e)))))
     ]
-
--- at most one for each record
-changes-le : (g : List ℕ) (t c : ℕ) → length (changesIn g t c) ≤ c
-unfolding changesIn
-changes-le g t zero = omega arith
-changes-le g t (suc i) = let r = recordAt g i in let h = changes-le g t i in by-bool (isBegin r t)
-    (λ e. rw e (omega arith))
-    (λ e. by-bool (isChange r t) (λ f. rw (e, f) (omega arith)) (λ f. rw (e, f) (omega arith)))
 
 pub shares-le : (g : List ℕ) (c : ℕ) (l : List ℕ) (t : ℕ) → l ≡ sharesIn g c → t < 16 → getD l t 0 ≤ c + 1
 shares-le g c l t e h = let k = changes-le g t c in rw (e, shares-at g c t h)

@@ -5,7 +5,7 @@ ghost use lib.ListN.{length};
 ghost use Rattle.records.specs.Soundness.{recordsSound};
 ghost use Rattle.records.specs.Order.{openNext, openIn, inOrder, logSound};
 use super::sound::word_sound;
-use page_ops::bits;
+use bit_ops::bits;
 use records::Record;
 
 // The transactions begun and not ended, after one more record.

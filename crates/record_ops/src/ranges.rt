@@ -7,7 +7,7 @@ ghost use lib.ListN.{length};
 ghost use lib.Dec.{eqb};
 ghost use Rattle.records.specs.Soundness.{recordsSound};
 ghost use Rattle.record_ops.specs.Ranges as spec;
-use page_ops::bits;
+use bit_ops::bits;
 use records::Record;
 
 // The row of a record: its kind, and 8 more where its field is that of a data word.

@@ -14,7 +14,7 @@ pub fn find_open(stored: &[u32], log: &[u32], n: usize, l: usize, c: usize) -> S
     if l < c {
         return Scan::Refuse(Refusal::Unsound);
     }
-    if !page_ops::sound::area_sound(stored, n) {
+    if !page_check::sound::area_sound(stored, n) {
         return Scan::Refuse(Refusal::Unsound);
     }
     if !record_ops::log_sound(log, n, c) {

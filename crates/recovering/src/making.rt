@@ -8,7 +8,7 @@ ghost use Rattle.records.specs.Order.{openIn};
 ghost use Rattle.records.specs.Recovery.{redone, undoneIn, recovered};
 ghost use Rattle.pages.specs.Soundness.{freeZero};
 ghost use Rattle.recovering.specs.Rebuilding.{leaving, takenBack};
-use page_ops::bits;
+use bit_ops::bits;
 use records::Record;
 
 // The first c records take effect, in order.
@@ -67,7 +67,7 @@ pub fn recover(stored: &[u32], a: &mut [u32], log: &[u32], n: usize, c: usize, m
     page_ops::areas::copy_area(stored, a);
     redo(a, log, c);
     undo(a, log, c, m);
-    page_ops::sound::pages_free_zero(a, n)
+    page_check::sound::pages_free_zero(a, n)
 }
 
 // The received count becomes the stable count, and the working tables clear but for a running reopening.

@@ -11,6 +11,7 @@ use Rattle.records.specs.declared.Record.{Record}
 use Rattle.records.specs.Records.{recordAt}
 use Rattle.records.specs.Soundness.{recordSound}
 use Rattle.records.specs.Order.{openIn, openNext, inOrder, logSound}
+use Rattle.record_laws.specs.RecordLaws.{open-same}
 use Rattle.recovery.specs.Shapes.{shapes, recs}
 use Rattle.recovery.proofs.Reopening.{EachSound, InOrder, log-sound}
 
@@ -20,11 +21,6 @@ module _ (g h : List ℕ) where
   unfolding recs
   recs-same zero e = refl
   recs-same (suc i) e = rw (e i (omega arith), recs-same i (λ j l. e j (omega arith)))
-
-  pub open-same : (c : ℕ) → ((i : ℕ) → i < c → recordAt g i ≡ recordAt h i) → openIn g c ≡ openIn h c
-  unfolding openIn
-  open-same zero e = refl
-  open-same (suc i) e = ap (λ r. openNext (openIn g i) r) (e i (omega arith)) ∙ ap (λ m. openNext m (recordAt h i)) (open-same i (λ j l. e j (omega arith)))
 
 module _ (n : ℕ) (g : List ℕ) where
   pub log-intro : (c : ℕ) → EachSound n g c → InOrder g c → logSound n g c ≡ true

@@ -1,20 +1,15 @@
 -- Objects that agree in every cell that no record writes: how that goes on, and which areas do. Assumes nothing.
-use Prim.Native.Nat.{ℕ, _*_}
-use mathlib.Core.Path.{_≡_, refl, ap, _∙_}
-use mathlib.Core.Bool.{Bool, true}
+use Prim.Native.Nat.{ℕ}
+use mathlib.Core.Path.{_≡_, refl, _∙_}
+use mathlib.Core.Bool.{Bool}
 use mathlib.Core.List.{List}
-use lib.ListN.{length}
 use Rattle.words.specs.Tests.{by-bool}
 use Rattle.records.specs.declared.Record.{Record}
-use Rattle.records.specs.Order.{logSound}
-use Rattle.records.specs.Recovery.{recovered}
 use Rattle.collector.specs.Objects.{Obj}
 use Rattle.collector.specs.State.{mix}
-use Rattle.views.specs.View.{view}
-use Rattle.recovery.specs.Lines.{everyone, nobody, replay, book, undo, Recovers}
-use Rattle.recovery.specs.Shapes.{shapes, recs}
-use Rattle.recovery.proofs.Decided.{SameCells, decided, replay-occ, replay-word, undo-occ, undo-word}
-use Rattle.recovery.proofs.Reopening.{recovered-view}
+use Rattle.recovery.specs.Lines.{replay, undo}
+use Rattle.recovery.specs.Shapes.{shapes}
+use Rattle.recovery.proofs.Decided.{SameCells, replay-occ, replay-word, undo-occ, undo-word}
 
 module _ (rs : List Record) where
   pub same-self : (A : ℕ → Obj) → SameCells rs A A
@@ -40,15 +35,3 @@ module _ (rs : List Record) where
 
   pub undo-cells : (w : ℕ → Bool) (A : ℕ → Obj) → SameCells rs (λ x. undo x w (shapes rs) (A x)) A
   undo-cells w A = record { occ = λ x h. undo-occ x w rs (A x) h; word = λ x f h. undo-word x f w rs (A x) h }
-
-module _ (n : ℕ) (a g : List ℕ) (c : ℕ) (len : length a ≡ 129 * n) (s : logSound n g c ≡ true) where
-  -- what reopening makes of an area
-  pub recovered-cells : SameCells (recs g c) (view (recovered a g c)) (view a)
-  recovered-cells = same-eq (recs g c) (view (recovered a g c)) (λ x. undo x everyone (shapes (recs g c)) (replay (view a) x (shapes (recs g c)))) (view a)
-      (recovered-view n a g c len s)
-      (same-trans (recs g c) (undo-cells (recs g c) everyone (λ x. replay (view a) x (shapes (recs g c)))) (replay-cells (recs g c) (view a)))
-
-  -- Reopening over any area that agrees with the base where no record writes leaves what the book says.
-  pub recovered-book : (base : ℕ → Obj) → SameCells (recs g c) (view a) base → Recovers base (shapes (recs g c))
-      → (x : ℕ) → view (recovered a g c) x ≡ book base x nobody (shapes (recs g c))
-  recovered-book base k r x = recovered-view n a g c len s x ∙ ap (undo x everyone (shapes (recs g c))) (decided (recs g c) (view a) base k x) ∙ r x

@@ -1,19 +1,18 @@
 -- A cell, an occupied bit or a word of an object, that the records write is decided by them; any other is left alone. Assumes nothing.
-use Prim.Native.Nat.{ℕ, zero, suc, _≤_, _<_}
-use native.Mathlib.Omega.{arith}
+use Prim.Native.Nat.{ℕ, zero, suc}
 use mathlib.Core.Path.{_≡_, refl, sym, ap, _∙_}
 use mathlib.Core.Bool.{Bool, true, false, _&&_, _||_}
 use mathlib.Core.List.{List, [], _∷_, _++_}
 use lib.ListN.{drop}
-use lib.Dec.{eqb, ltb}
-use borrow.Author.Tests.{eqb-true, eqb-false, eq-eqb, ne-eqb, le-leb, ltb-true}
+use lib.Dec.{eqb}
+use borrow.Author.Tests.{eqb-true, eqb-false, eq-eqb, ne-eqb}
 use Rattle.words.specs.Tests.{if, by-bool, clash, or-false-l, or-false-r}
-use Rattle.pages.specs.Objects.{occupied, wordOf}
 use Rattle.records.specs.declared.Record.{Record}
 use Rattle.collector.specs.Objects.{Obj, blank, fresh, put}
 use Rattle.book.specs.Pointers.{sweeps, makesOrFrees, writes}
-use Rattle.views.specs.View.{view, applied, unapplied}
+use Rattle.views.specs.View.{applied, unapplied}
 use Rattle.views.proofs.Effects.{obj-ext}
+use Rattle.collector.proofs.Objects.{put-occ}
 use Rattle.recovery.specs.Lines.{replay, undo}
 use Rattle.recovery.specs.Shapes.{shapes, someOf, writesOcc, writesWord}
 use Rattle.recovery.proofs.Shapes.{begins, creates, sets, commits, aborts, uncreates, rest, kind-of, counted, replay-shape, undo-shape}
@@ -56,10 +55,6 @@ put-word b f v g e = rw (ne-eqb g f (λ z. eqb-false f g e (sym z))) refl
 put-here : (b : Obj) (f v g : ℕ) → eqb f g ≡ true → put b f v .word g ≡ v
 unfolding put
 put-here b f v g e = rw (eq-eqb g f (sym (eqb-true f g e))) refl
-
-put-occ : (b : Obj) (f v : ℕ) → put b f v .occ ≡ b .occ
-unfolding put
-put-occ b f v = refl
 
 -- one record
 module _ (r : Record) (x : ℕ) (b : Obj) where
@@ -169,19 +164,3 @@ same-longer new rs s = record { occ = λ x h. s .occ x (some-older _ new rs h); 
 
 pub same-drop : (j : ℕ) (rs : List Record) {A B : ℕ → Obj} → SameCells (drop j rs) A B → SameCells rs A B
 same-drop j rs s = record { occ = λ x h. s .occ x (some-drop _ j rs h); word = λ x f h. s .word x f (some-drop _ j rs h) }
-
--- the cells of page areas: objects from 1, words 0 to 7
-pub same-areas : (rs : List Record) (a b : List ℕ)
-    → ((x : ℕ) → 1 ≤ x → writesOcc rs x ≡ false → occupied a x ≡ occupied b x)
-    → ((x f : ℕ) → 1 ≤ x → f < 8 → writesWord rs x f ≡ false → wordOf a x f ≡ wordOf b x f)
-    → SameCells rs (view a) (view b)
-unfolding view
-same-areas rs a b p q = record { occ = bits; word = words }
-  where
-    bits : (x : ℕ) → writesOcc rs x ≡ false → view a x .occ ≡ view b x .occ
-    bits zero h = refl
-    bits (suc x) h = rw (le-leb 1 (suc x) (omega arith)) (p (suc x) (omega arith) h)
-
-    words : (x f : ℕ) → writesWord rs x f ≡ false → view a x .word f ≡ view b x .word f
-    words zero f h = refl
-    words (suc x) f h = rw (le-leb 1 (suc x) (omega arith)) (by-bool (ltb f 8) (λ e. rw e (q (suc x) f (omega arith) (ltb-true f 8 e) h)) (λ e. rw e refl))

@@ -15,6 +15,5 @@ pub mod Changes
 pub mod Steps
 pub mod Cells
 pub mod Naming
-pub mod Sound
 pub mod Logged
 pub mod Rolling

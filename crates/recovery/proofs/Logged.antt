@@ -12,7 +12,8 @@ use Rattle.records.specs.Soundness.{recordSound}
 use Rattle.records.specs.Order.{openIn, inOrder, logSound}
 use Rattle.collector.specs.Objects.{Obj}
 use Rattle.views.specs.View.{view, applied}
-use Rattle.views.proofs.Records.{effect-view, length-effect}
+use Rattle.record_laws.specs.EffectLaws.{length-effect}
+use Rattle.views.proofs.Records.{effect-view}
 use Rattle.recovery.specs.Lines.{replay}
 use Rattle.recovery.specs.Shapes.{shapes, recs}
 use Rattle.recovery.proofs.Shapes.{replay-shape}
@@ -35,7 +36,7 @@ unfolding shapes
 logged-more n base a g c rs l h r old new s o = record {
   records = recs-more g h c r old new ∙ ap (λ (q : List Record). r ∷ q) (l .records);
   sound = log-more g h c r old new n (l .sound) s o;
-  size = length-effect n a (l .size) r s ∙ l .size;
+  size = length-effect a r ∙ l .size;
   small = small-effect n a (l .size) r s (l .small);
   shown = λ x. effect-view n a (l .size) r s x ∙ ap (applied r x) (l .shown x) ∙ sym (replay-shape base r x (shapes rs));
 }

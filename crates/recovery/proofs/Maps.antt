@@ -3,18 +3,16 @@
 use Prim.Native.Nat.{ℕ, zero, suc, _+_, _*_, _/_, _%_, _≤_, _<_}
 use native.Mathlib.Omega.{arith}
 use mathlib.Core.Path.{_≡_, refl, sym, _∙_}
-use mathlib.Core.Bool.{Bool, true, false, _&&_}
+use mathlib.Core.Bool.{Bool, true, false}
 use mathlib.Core.List.{List}
 use lib.ListN.{length, getD, set, replicate, length-replicate, getD-replicate}
-use lib.Seq.{getD-set-same, getD-set-other, ext-getD}
+use lib.Seq.{ext-getD}
 use lib.Dec.{eqb}
-use borrow.Author.Tests.{eqb-true, eqb-false, leb-true}
-use Rattle.words.specs.Tests.{if, by-bool, all-at, and-split}
+use Rattle.words.specs.Tests.{if, by-bool}
 use Rattle.words.specs.Bits.{bit, withBit, withoutBit, with-lt, without-le, bits-same}
-use Rattle.words.specs.Spans.{fill-outside}
 use Rattle.pages.specs.Geometry.{pageAt, slotAt, objectAt, pageOf, slotOf, root}
-use Rattle.pages.specs.Objects.{mapAt, taken, slotWord, occupied, cleared, takenSlot, freedSlot, releasedIn, formattedPages}
-use Rattle.pages.specs.Soundness.{mapSound, refsSound, freeZero, pageSound, areaSound}
+use Rattle.pages.specs.Objects.{mapAt, taken, slotWord, cleared, takenSlot, freedSlot, releasedIn, formattedPages}
+use Rattle.pages.specs.Soundness.{areaSound}
 use Rattle.records.specs.declared.Record.{Record}
 use Rattle.records.specs.Records.{recordAt}
 use Rattle.records.specs.Effects.{effect, undone}
@@ -22,12 +20,15 @@ use Rattle.records.specs.Soundness.{recordSound}
 use Rattle.records.specs.Order.{openIn, logSound}
 use Rattle.records.specs.Recovery.{redone, undoneIn, recovered}
 use Rattle.views.specs.View.{view}
-use Rattle.views.proofs.Places.{no-map, map-inside, slot-small, page-small, page-of-at, slot-of-at}
-use Rattle.views.proofs.Slots.{put-map, length-released}
-use Rattle.views.proofs.Sound.{sound-record}
+use Rattle.page_laws.specs.BitLaws.{clear-le}
+use Rattle.page_laws.specs.Places.{map-put, map-set, map-released-in}
+use Rattle.page_laws.specs.SoundFacts.{sound-facts}
+use Rattle.record_laws.specs.EffectLaws.{length-if, length-undone, length-redone}
+use Rattle.views.proofs.Places.{map-inside, slot-small, page-small, page-of-at, slot-of-at}
+use Rattle.record_laws.specs.RecordLaws.{sound-record, named-object}
+use Rattle.views.proofs.Effects.{view-occ, view-word}
 use Rattle.views.proofs.Records.{creates, sets, uncreates, frees, other, kind-of}
-use Rattle.recovery.proofs.Reversal.{view-occ, view-word}
-use Rattle.recovery.proofs.Reopening.{EachSound, log-sound, length-redone, length-undone-if}
+use Rattle.recovery.proofs.Reopening.{EachSound, log-sound}
 use Rattle.recovery.proofs.Masks.{maskBefore}
 
 -- no map above 65535
@@ -35,21 +36,12 @@ abbrev pub Small : ℕ → List ℕ → Type 0
 Small n a = (p : ℕ) → p < n → mapAt a p ≤ 65535
 
 pub small-sound : (n : ℕ) (a : List ℕ) → areaSound a n ≡ true → Small n a
-unfolding areaSound pageSound
-small-sound n a h p l =
-    let pages = and-split _ (occupied a root) h .0 in
-    let page = all-at (pageSound a n) n p pages l in
-    let maps = and-split (mapSound a p && refsSound a n p) (freeZero a p) page .0 in
-    leb-true (mapAt a p) 65535 (and-split (mapSound a p) (refsSound a n p) maps .0)
+small-sound n a h p l = let e = sound-facts a n h .map p l in omega arith
 
 -- one slot, with another map
 module _ (n : ℕ) (a : List ℕ) (len : length a ≡ 129 * n) (p s : ℕ) (hp : p < n) (hs : s < 16) (h : Small n a) where
   small-remade : (v : ℕ) → v ≤ 65535 → Small n (cleared (set a (pageAt p) v) p s)
-  unfolding cleared
-  small-remade v b q l = rw (fill-outside (λ f. 0) (set a (pageAt p) v) (slotAt p s 0) 8 (pageAt q) 0 (λ k m e. no-map p q s k hs m (omega arith)))
-      (by-bool (eqb q p)
-      (λ e. rw (eqb-true q p e, getD-set-same a (pageAt p) v 0 (rw len (map-inside n p hp))) b)
-      (λ e. rw (getD-set-other a (pageAt p) (pageAt q) v 0 (λ z. eqb-false q p e (omega arith))) (h q l)))
+  small-remade v b q l = rw (map-put a p s v hs (omega arith) q) (by-bool (eqb q p) (λ e. rw e b) (λ e. rw e (h q l)))
 
   pub small-taken : Small n (takenSlot a p s)
   unfolding takenSlot
@@ -60,11 +52,9 @@ module _ (n : ℕ) (a : List ℕ) (len : length a ≡ 129 * n) (p s : ℕ) (hp :
   small-freed = small-remade (withoutBit (mapAt a p) s) (let b = h p hp in let k = without-le (mapAt a p) s in omega arith)
 
 pub small-released : (n : ℕ) (a : List ℕ) → length a ≡ 129 * n → (p m : ℕ) → p < n → Small n a → (k : ℕ) → k ≤ 16 → Small n (releasedIn a p m k)
-unfolding releasedIn
-small-released n a len p m hp h zero l = h
-small-released n a len p m hp h (suc k) l = by-bool (bit m k)
-    (λ e. rw e (small-freed n (releasedIn a p m k) (length-released n a len p m hp k (omega arith) ∙ len) p k hp (omega arith) (small-released n a len p m hp h k (omega arith))))
-    (λ e. rw e (small-released n a len p m hp h k (omega arith)))
+small-released n a len p m hp h k l q hq = rw (map-released-in a p m (omega arith) k q l) (by-bool (eqb q p)
+    (λ e. rw e (let c = clear-le (mapAt a p) m k in let b = h p hp in omega arith))
+    (λ e. rw e (h q hq)))
 
 pub small-formatted : (n : ℕ) → 1 ≤ n → Small n (formattedPages n)
 unfolding formattedPages
@@ -77,25 +67,25 @@ module _ (n : ℕ) (a : List ℕ) (len : length a ≡ 129 * n) (r : Record) (ok 
   place i = page-small n (r .object) (i .0) (i .1)
 
   written-small : (v : ℕ) → r .kind ≡ 3 → Small n (set a (slotAt (pageOf (r .object)) (slotOf (r .object)) (r .field)) v)
-  written-small v k q l = let s = sound-record n r ok in let i = s .object (rw k refl) in
-      rw (put-map n a len (pageOf (r .object)) (slotOf (r .object)) (r .field) v (place i) (slot-small (r .object)) (s .field k) q) (h q l)
+  written-small v k q l = let s = sound-record n r ok in let i = named-object n r s (rw k refl) in
+      rw (map-set a (pageOf (r .object)) (slotOf (r .object)) (r .field) v (slot-small (r .object)) (s .field-below) (omega arith) q) (h q l)
 
   pub small-effect : Small n (effect a r)
   unfolding effect
   small-effect = elim (kind-of r) [
-    | creates k ↦ (let i = sound-record n r ok .object (rw k refl) in rw k (small-taken n a len (pageOf (r .object)) (slotOf (r .object)) (place i) (slot-small (r .object)) h))
+    | creates k ↦ (let i = named-object n r (sound-record n r ok) (rw k refl) in rw k (small-taken n a len (pageOf (r .object)) (slotOf (r .object)) (place i) (slot-small (r .object)) h))
     | sets k ↦ rw k (written-small (r .new) k)
-    | uncreates k ↦ (let i = sound-record n r ok .object (rw k refl) in rw k (small-freed n a len (pageOf (r .object)) (slotOf (r .object)) (place i) (slot-small (r .object)) h))
-    | frees k ↦ rw k (small-released n a len (r .object) (r .new) (sound-record n r ok .page k) h 16 (omega arith))
+    | uncreates k ↦ (let i = named-object n r (sound-record n r ok) (rw k refl) in rw k (small-freed n a len (pageOf (r .object)) (slotOf (r .object)) (place i) (slot-small (r .object)) h))
+    | frees k ↦ rw k (small-released n a len (r .object) (r .new) (sound-record n r ok .sweep k .0) h 16 (omega arith))
     | other p q s t ↦ rw (p, q, s, t) h
   ]
 
   pub small-undone : Small n (undone a r)
   unfolding undone
   small-undone = elim (kind-of r) [
-    | creates k ↦ (let i = sound-record n r ok .object (rw k refl) in rw k (small-freed n a len (pageOf (r .object)) (slotOf (r .object)) (place i) (slot-small (r .object)) h))
+    | creates k ↦ (let i = named-object n r (sound-record n r ok) (rw k refl) in rw k (small-freed n a len (pageOf (r .object)) (slotOf (r .object)) (place i) (slot-small (r .object)) h))
     | sets k ↦ rw k (written-small (r .old) k)
-    | uncreates k ↦ (let i = sound-record n r ok .object (rw k refl) in rw k (small-taken n a len (pageOf (r .object)) (slotOf (r .object)) (place i) (slot-small (r .object)) h))
+    | uncreates k ↦ (let i = named-object n r (sound-record n r ok) (rw k refl) in rw k (small-taken n a len (pageOf (r .object)) (slotOf (r .object)) (place i) (slot-small (r .object)) h))
     | frees k ↦ rw k h
     | other p q s t ↦ rw (p, q, s) h
   ]
@@ -104,14 +94,14 @@ module _ (n : ℕ) (a : List ℕ) (len : length a ≡ 129 * n) (r : Record) (ok 
 pub small-redone : (n : ℕ) (a g : List ℕ) → length a ≡ 129 * n → Small n a → (c : ℕ) → EachSound n g c → Small n (redone a g c)
 unfolding redone
 small-redone n a g len h zero s = h
-small-redone n a g len h (suc i) s = small-effect n (redone a g i) (length-redone n a g len i (λ j l. s j (omega arith))) (recordAt g i) (s i (omega arith))
+small-redone n a g len h (suc i) s = small-effect n (redone a g i) (length-redone a g i ∙ len) (recordAt g i) (s i (omega arith))
     (small-redone n a g len h i (λ j l. s j (omega arith)))
 
 pub small-undone-in : (n : ℕ) (g : List ℕ) (m c : ℕ) (a : List ℕ) → length a ≡ 129 * n → Small n a → EachSound n g c → Small n (undoneIn g m c a)
 unfolding undoneIn
 small-undone-in n g m zero a len h s = h
 small-undone-in n g m (suc i) a len h s = small-undone-in n g (maskBefore m (recordAt g i)) i (if (bit m (recordAt g i .txn)) (undone a (recordAt g i)) a)
-    (length-undone-if n a len (recordAt g i) (s i (omega arith)) (bit m (recordAt g i .txn))) (either (bit m (recordAt g i .txn))) (λ j l. s j (omega arith))
+    (length-if (bit m (recordAt g i .txn)) (undone a (recordAt g i)) a (length-undone a (recordAt g i)) ∙ len) (either (bit m (recordAt g i .txn))) (λ j l. s j (omega arith))
   where
     either : (b : Bool) → Small n (if b (undone a (recordAt g i)) a)
     either true = small-undone n a len (recordAt g i) (s i (omega arith)) h
@@ -120,7 +110,7 @@ small-undone-in n g m (suc i) a len h s = small-undone-in n g (maskBefore m (rec
 pub small-recovered : (n : ℕ) (a g : List ℕ) (c : ℕ) → length a ≡ 129 * n → Small n a → logSound n g c ≡ true → Small n (recovered a g c)
 unfolding recovered
 small-recovered n a g c len h k = let s = log-sound n g c k .0 in
-    small-undone-in n g (openIn g c) c (redone a g c) (length-redone n a g len c s) (small-redone n a g len h c s) s
+    small-undone-in n g (openIn g c) c (redone a g c) (length-redone a g c ∙ len) (small-redone n a g len h c s) s
 
 -- Areas that show the same objects are the same.
 module _ (n : ℕ) (a b : List ℕ) (la : length a ≡ 129 * n) (lb : length b ≡ 129 * n) (ma : Small n a) (mb : Small n b) (same : (x : ℕ) → view a x ≡ view b x) where

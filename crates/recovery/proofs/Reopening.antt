@@ -10,12 +10,13 @@ use Rattle.words.specs.Bits.{bit}
 use Rattle.records.specs.declared.Record.{Record}
 use Rattle.records.specs.Records.{recordAt}
 use Rattle.records.specs.Effects.{undone}
-use Rattle.records.specs.Soundness.{namesObject, recordSound, recordsSound}
+use Rattle.records.specs.Soundness.{namesObject, recordSound}
 use Rattle.records.specs.Order.{openIn, inOrder, logSound}
 use Rattle.records.specs.Recovery.{redone, undoneIn, recovered}
 use Rattle.collector.specs.Objects.{Obj}
 use Rattle.views.specs.View.{view, applied, unapplied}
-use Rattle.views.proofs.Records.{effect-view, undone-view, length-effect, length-undone}
+use Rattle.record_laws.specs.EffectLaws.{length-if, length-undone, length-redone}
+use Rattle.views.proofs.Records.{effect-view, undone-view}
 use Rattle.recovery.specs.Lines.{everyone, replay, undo}
 use Rattle.recovery.specs.Shapes.{shapes, recs}
 use Rattle.recovery.proofs.Shapes.{counted, replay-shape, undo-shape, unapplied-none}
@@ -28,10 +29,6 @@ EachSound n g c = (i : ℕ) → i < c → recordSound n (recordAt g i) ≡ true
 abbrev pub InOrder : List ℕ → ℕ → Type 0
 InOrder g c = (i : ℕ) → i < c → inOrder (openIn g i) (recordAt g i) ≡ true
 
-pub records-sound : (n : ℕ) (g : List ℕ) (c : ℕ) → recordsSound n g c ≡ true → EachSound n g c
-unfolding recordsSound
-records-sound n g c h i l = all-at (λ i. recordSound n (recordAt g i)) c i h l
-
 pub log-sound : (n : ℕ) (g : List ℕ) (c : ℕ) → logSound n g c ≡ true → EachSound n g c × InOrder g c
 unfolding logSound
 log-sound n g c h = (λ i l. at i l .0, λ i l. at i l .1)
@@ -41,25 +38,16 @@ log-sound n g c h = (λ i l. at i l .0, λ i l. at i l .1)
 
 -- redoing
 module _ (n : ℕ) (a g : List ℕ) (len : length a ≡ 129 * n) where
-  pub length-redone : (c : ℕ) → EachSound n g c → length (redone a g c) ≡ 129 * n
-  unfolding redone
-  length-redone zero s = len
-  length-redone (suc i) s = let h = length-redone i (λ j l. s j (omega arith)) in length-effect n (redone a g i) h (recordAt g i) (s i (omega arith)) ∙ h
-
   pub redone-view : (c : ℕ) → EachSound n g c → (x : ℕ) → view (redone a g c) x ≡ replay (view a) x (shapes (recs g c))
   unfolding redone recs shapes replay
   redone-view zero s x = refl
   redone-view (suc i) s x =
-      effect-view n (redone a g i) (length-redone i (λ j l. s j (omega arith))) (recordAt g i) (s i (omega arith)) x
+      effect-view n (redone a g i) (length-redone a g i ∙ len) (recordAt g i) (s i (omega arith)) x
       ∙ ap (applied (recordAt g i) x) (redone-view i (λ j l. s j (omega arith)) x)
       ∙ sym (replay-shape (view a) (recordAt g i) x (shapes (recs g i)))
 
 -- undoing one record where the mask says so
 module _ (n : ℕ) (a : List ℕ) (len : length a ≡ 129 * n) (r : Record) (ok : recordSound n r ≡ true) where
-  pub length-undone-if : (b : Bool) → length (if b (undone a r) a) ≡ 129 * n
-  length-undone-if true = length-undone n a len r ok ∙ len
-  length-undone-if false = len
-
   undone-if : (b : Bool) (x : ℕ) → view (if b (undone a r) a) x ≡ if b (unapplied r x (view a x)) (view a x)
   undone-if true x = undone-view n a len r ok x
   undone-if false x = refl
@@ -75,12 +63,6 @@ module _ (n : ℕ) (a : List ℕ) (len : length a ≡ 129 * n) (r : Record) (ok 
       either false v = refl
 
 module _ (n : ℕ) (g : List ℕ) where
-  pub length-undone-in : (m c : ℕ) (a : List ℕ) → length a ≡ 129 * n → EachSound n g c → length (undoneIn g m c a) ≡ 129 * n
-  unfolding undoneIn
-  length-undone-in m zero a len s = len
-  length-undone-in m (suc i) a len s = length-undone-in (maskBefore m (recordAt g i)) i (if (bit m (recordAt g i .txn)) (undone a (recordAt g i)) a)
-      (length-undone-if n a len (recordAt g i) (s i (omega arith)) (bit m (recordAt g i .txn))) (λ j l. s j (omega arith))
-
   -- w counts the transactions that are not ended by a later record; the mask has those of them that are open
   pub undone-in-view : (m c : ℕ) (a : List ℕ) (w : ℕ → Bool) → length a ≡ 129 * n → EachSound n g c → InOrder g c
       → ((t : ℕ) → bit m t ≡ (bit (openIn g c) t && w t))
@@ -89,7 +71,7 @@ module _ (n : ℕ) (g : List ℕ) where
   undone-in-view m zero a w len s o h x = refl
   undone-in-view m (suc i) a w len s o h x =
       undone-in-view (maskBefore m (recordAt g i)) i (if (bit m (recordAt g i .txn)) (undone a (recordAt g i)) a) (counted w (recordAt g i))
-      (length-undone-if n a len (recordAt g i) (s i (omega arith)) (bit m (recordAt g i .txn))) (λ j l. s j (omega arith)) (λ j l. o j (omega arith))
+      (length-if (bit m (recordAt g i .txn)) (undone a (recordAt g i)) a (length-undone a (recordAt g i)) ∙ len) (λ j l. s j (omega arith)) (λ j l. o j (omega arith))
       (mask-before m (openIn g i) w (recordAt g i) h (o i (omega arith))) x
       ∙ ap (undo x (counted w (recordAt g i)) (shapes (recs g i)))
       (undone-here n a len (recordAt g i) (s i (omega arith)) (bit m (recordAt g i .txn)) (w (recordAt g i .txn))
@@ -97,13 +79,9 @@ module _ (n : ℕ) (g : List ℕ) where
       ∙ sym (undo-shape w (recordAt g i) x (shapes (recs g i)) (view a x))
 
 module _ (n : ℕ) (a g : List ℕ) (c : ℕ) (len : length a ≡ 129 * n) (s : logSound n g c ≡ true) where
-  pub length-recovered : length (recovered a g c) ≡ 129 * n
-  unfolding recovered
-  length-recovered = let k = log-sound n g c s .0 in length-undone-in n g (openIn g c) c (redone a g c) (length-redone n a g len c k) k
-
   -- reopening leaves the lines' effect, with what did not end undone
   pub recovered-view : (x : ℕ) → view (recovered a g c) x ≡ undo x everyone (shapes (recs g c)) (replay (view a) x (shapes (recs g c)))
   unfolding recovered
   recovered-view x = let k = log-sound n g c s in
-      undone-in-view n g (openIn g c) c (redone a g c) everyone (length-redone n a g len c (k .0)) (k .0) (k .1) (λ t. sym (and-true (bit (openIn g c) t))) x
+      undone-in-view n g (openIn g c) c (redone a g c) everyone (length-redone a g c ∙ len) (k .0) (k .1) (λ t. sym (and-true (bit (openIn g c) t))) x
       ∙ ap (undo x everyone (shapes (recs g c))) (redone-view n a g len c (k .0) x)

@@ -1,22 +1,19 @@
--- Records that take one another back: the undoing record of a create or a set, and the objects at which undoing gives back what stood
--- before. Assumes nothing.
-use Prim.Native.Nat.{ℕ, _≤_, _<_}
+-- Records that take one another back: the undoing record of a create or a set, and where undoing gives back what stood before.
+-- Assumes nothing.
+use Prim.Native.Nat.{ℕ}
 use mathlib.Core.Path.{_≡_, refl, sym, _∙_}
-use mathlib.Core.Bool.{true, false, _||_}
-use mathlib.Core.List.{List}
+use mathlib.Core.Bool.{true, _||_}
 use mathlib.Core.Logic.{_⊎_, inl, inr}
-use lib.Dec.{eqb, ltb}
-use borrow.Author.Tests.{eqb-true, eq-eqb, le-leb, lt-ltb, ltb-true}
-use Rattle.words.specs.Tests.{all-at, by-bool, clash, or-cases}
-use Rattle.pages.specs.Geometry.{pageOf, slotOf}
-use Rattle.pages.specs.Objects.{occupied, wordOf, taken}
-use Rattle.pages.specs.Soundness.{slotZero, freeZero}
+use lib.Dec.{eqb}
+use borrow.Author.Tests.{eqb-true, eq-eqb}
+use Rattle.words.specs.Tests.{by-bool}
+use Rattle.words.specs.Bits.{bit}
 use Rattle.records.specs.declared.Record.{Record}
 use Rattle.records.specs.Records.{setOf, uncreateOf}
 use Rattle.records.specs.Effects.{undoing}
+use Rattle.records.specs.Order.{openNext, inOrder}
 use Rattle.collector.specs.Objects.{Obj, blank, put}
-use Rattle.views.specs.View.{view, applied, unapplied}
-use Rattle.views.proofs.Places.{slot-small}
+use Rattle.views.specs.View.{applied, unapplied}
 use Rattle.views.proofs.Effects.{obj-ext}
 use Rattle.recovery.specs.Lines.{acts}
 use Rattle.recovery.specs.Shapes.{shape}
@@ -49,6 +46,21 @@ module _ (r : Record) where
   pub shape-undoing : Change r → shape (undoing r) ≡ acts (r .txn) (r .object) (unapplied r (r .object)) (applied r (r .object))
   shape-undoing c = undoing-shape c ∙ (λ j. acts (r .txn) (r .object) (λ b. undoing-applied c b j) (λ b. undoing-unapplied c b j))
 
+  -- it is a change by kind, in order while its transaction is open, and leaves the open transactions
+  pub change-kind : Change r → (eqb (r .kind) 2 || eqb (r .kind) 3) ≡ true
+  change-kind (inl k) = rw k refl
+  change-kind (inr k) = rw k refl
+
+  pub undoing-order : (m : ℕ) → Change r → bit m (r .txn) ≡ true → inOrder m (undoing r) ≡ true
+  unfolding undoing
+  undoing-order m (inl k) h = rw k h
+  undoing-order m (inr k) h = rw k h
+
+  pub undoing-open : (m : ℕ) → Change r → openNext m (undoing r) ≡ m
+  unfolding undoing
+  undoing-open m (inl k) = rw k refl
+  undoing-open m (inr k) = rw k refl
+
   -- undoing gives back: a create of a free object with zeros, a set whose old word stands there, an uncreate of a new object
   pub create-back : (v : Obj) → r .kind ≡ 2 → v ≡ blank → unapplied r (r .object) (applied r (r .object) v) ≡ v
   unfolding unapplied
@@ -57,24 +69,3 @@ module _ (r : Record) where
   pub set-back : (v : Obj) → r .kind ≡ 3 → v .word (r .field) ≡ r .old → unapplied r (r .object) (applied r (r .object) v) ≡ v
   unfolding applied unapplied put
   set-back v k e = rw (k, self) (obj-ext _ _ refl (λ f. by-bool (eqb f (r .field)) (λ h. rw (h, eqb-true f (r .field) h) (sym e)) (λ h. rw h refl)))
-
--- what a view shows
-module _ (a : List ℕ) (x : ℕ) (hx : 1 ≤ x) where
-  pub view-occ : view a x .occ ≡ occupied a x
-  unfolding view
-  view-occ = rw (le-leb 1 x hx) refl
-
-  pub view-word : (f : ℕ) → f < 8 → view a x .word f ≡ wordOf a x f
-  unfolding view
-  view-word f l = rw (le-leb 1 x hx, lt-ltb f 8 l) refl
-
-  -- a free slot of a sound page
-  pub view-free : occupied a x ≡ false → freeZero a (pageOf x) ≡ true → view a x ≡ blank
-  unfolding view blank freeZero slotZero
-  view-free e z = rw (le-leb 1 x hx) (obj-ext _ _ e (λ f. by-bool (ltb f 8) (λ h. rw h (words f (ltb-true f 8 h))) (λ h. rw h refl)))
-    where
-      words : (f : ℕ) → f < 8 → wordOf a x f ≡ 0
-      words f l = elim (or-cases (occupied a x) (slotZero a (pageOf x) (slotOf x)) (all-at (λ s. taken a (pageOf x) s || slotZero a (pageOf x) s) 16 (slotOf x) z (slot-small x))) [
-        | inl h ↦ clash h e
-        | inr h ↦ eqb-true (wordOf a x f) 0 (all-at (λ f. eqb (wordOf a x f) 0) 8 f h l)
-      ]

@@ -23,12 +23,12 @@ use Rattle.areas.specs.Areas.{Areas, receivedCount, appended}
 use Rattle.calls.specs.Transactions.{changesOf, rolledBack}
 use Rattle.collector.specs.Objects.{Obj}
 use Rattle.recovery.specs.Shapes.{undoings, undoingsOf}
-use Rattle.recovery.proofs.Reversal.{Change}
+use Rattle.record_laws.specs.SoundRecords.{aborted-sound, undoing-sound}
+use Rattle.recovery.proofs.Reversal.{Change, change-kind, undoing-order, undoing-open}
 use Rattle.recovery.proofs.Reopening.{EachSound, log-sound}
 use Rattle.recovery.proofs.Appending.{open-more}
 use Rattle.recovery.proofs.Changes.{changes-left, undoings-changes}
 use Rattle.recovery.proofs.Logged.{Logged, logged-more}
-use Rattle.recovery.proofs.Sound.{aborted-sound, undoing-sound, undoing-order, undoing-open}
 
 -- the records of these numbers are sound creates and sets of t
 unfoldable pub Undoable : ℕ → List ℕ → ℕ → List ℕ → Type 0
@@ -96,9 +96,9 @@ module _ (same : (g : List ℕ) (i : ℕ) (r : Record) → 6 * i + 6 ≤ length 
       let r = recordAt g i in
       let q = kept-less (suc (length is + m)) (omega arith) k in
       let still : openIn (appended s (undoing r) .log) (receivedCount (appended s (undoing r))) ≡ openIn (s .log) (receivedCount s) =
-      appended-open s rs (length is + m) q (undoing r) ∙ undoing-open (openIn (s .log) (receivedCount s)) r (u .0) in
-      let more = appended-kept s rs (length is + m) q (undoing r) (undoing-sound n r (u .0) (u .2))
-      (undoing-order (openIn (s .log) (receivedCount s)) r (u .0) (rw (u .1) o)) in
+      appended-open s rs (length is + m) q (undoing r) ∙ undoing-open r (openIn (s .log) (receivedCount s)) (u .0) in
+      let more = appended-kept s rs (length is + m) q (undoing r) (undoing-sound n r (u .2) (change-kind r (u .0)))
+      (undoing-order r (openIn (s .log) (receivedCount s)) (u .0) (rw (u .1) o)) in
       let on = rolled-kept g t is (appended s (undoing r)) (undoing r ∷ rs) m (u .3) (rw still o) more in (on .0, on .1 ∙ still)
 
   -- the whole abort, with room for its records

@@ -14,8 +14,9 @@ use Rattle.areas.specs.Layout.{colourAt, workWords}
 use Rattle.areas.specs.Tables as Tables
 use Rattle.areas.specs.Tables.{at, coloured, isWhite, mayMark}
 use Rattle.collector.specs.State.{grey, whiteToGrey, greyed}
+use Rattle.page_laws.specs.Places.{object-range}
 use Rattle.shown.specs.Tables.{colourOf, colourAtObject}
-use Rattle.shown.proofs.Frames.{Beside, beside-self, beside-set, wider, object-low, is-object}
+use Rattle.shown.proofs.Frames.{Beside, beside-self, beside-set, wider, is-object}
 
 pub grey-beside : (w : List ℕ) (n x : ℕ) → 1 ≤ x → x ≤ 16 * n → Beside (colourAt n 1) (workWords n) w (Tables.greyed w n x)
 unfolding Tables.greyed
@@ -33,7 +34,7 @@ coloured-on (suc (suc m)) e = refl
 
 module _ (w : List ℕ) (n x : ℕ) (low : 1 ≤ x) (top : x ≤ 16 * n) (len : length w ≡ 6 + 67 * n) where
   elsewhere : (y : ℕ) → isObject n y ≡ true → eqb y x ≡ false → at (coloured w n x 1) (colourAt n y) ≡ at w (colourAt n y)
-  elsewhere y l e = getD-set-other w (colourAt n x) (colourAt n y) 1 0 (λ z. eqb-false y x e (let k = object-low n y l in omega arith))
+  elsewhere y l e = getD-set-other w (colourAt n x) (colourAt n y) 1 0 (λ z. eqb-false y x e (let k = object-range n y l .0 in omega arith))
 
   pub grey-colour : (y : ℕ) → colourAtObject (Tables.greyed w n x) n y ≡ greyed (eqb y x) (colourAtObject w n y)
   unfolding Tables.greyed colourAtObject greyed

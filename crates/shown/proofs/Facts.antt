@@ -26,7 +26,7 @@ use Rattle.collector.proofs.Facts as Facts
 use Rattle.views.specs.View.{view}
 use Rattle.shown.specs.Tables.{pageBit, objectBit}
 use Rattle.shown.proofs.Frames.{page-bit}
-use Rattle.shown.proofs.Areas.{view-here}
+use Rattle.views.proofs.Effects.{view-occ}
 use Rattle.shown.proofs.Shows.{Shows}
 
 -- 'nobody but t' is in a mask
@@ -103,7 +103,7 @@ module _ (a : Areas) (n : ℕ) (s : St) (e : Shows (a .work) n s) where
   create-facts t o m seen f l = record {
     ranged = rw (e .count) (f .object .top);
     own = own-is t o (f .txn) (f .object) (f .lock);
-    free = ap (λ (b : Obj). b .occ) (seen ∙ view-here (a .received) o (f .object .low)) ∙ f .free;
+    free = ap (λ (b : Obj). b .occ) seen ∙ view-occ (a .received) o (f .object .low) ∙ f .free;
     line = l;
   }
 

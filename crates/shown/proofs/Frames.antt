@@ -8,9 +8,9 @@ use mathlib.Core.List.{List}
 use mathlib.Core.Logic.{_⊎_, inl, inr}
 use lib.ListN.{length, set, length-set}
 use lib.Seq.{getD-set-other}
-use lib.Dec.{ltb, leb}
-use borrow.Author.Tests.{ltb-true, leb-true, lt-ltb, le-leb}
-use Rattle.words.specs.Tests.{by-bool, and-split}
+use lib.Dec.{ltb}
+use borrow.Author.Tests.{ltb-true, lt-ltb, le-leb}
+use Rattle.words.specs.Tests.{by-bool}
 use Rattle.words.specs.Bits.{bit, withBit, withoutBit}
 use Rattle.words.specs.Spans.{over, fill, length-over, length-fill, over-outside, fill-outside}
 use Rattle.pages.specs.Geometry.{isObject}
@@ -18,6 +18,7 @@ use Rattle.areas.specs.Layout.{reopeningAt, reopeningPageAt, phaseAt, passPageA
 use Rattle.areas.specs.Tables.{at, has, gain, lose, flag}
 use Rattle.collector.specs.Bits.{_and_, true-and}
 use Rattle.collector.specs.State.{Locks, Tables, Pass}
+use Rattle.page_laws.specs.Places.{object-range}
 use Rattle.shown.specs.Tables.{pageBit, objectBit, flagBit, colourAtObject, phaseOf, locksOf, tablesOf, passOf}
 
 -- the machine's parts from their fields
@@ -98,12 +99,6 @@ unfolding _and_
 under true h = h refl
 under false h = refl
 
-pub object-low : (n x : ℕ) → isObject n x ≡ true → 1 ≤ x
-object-low n x h = leb-true 1 x (and-split (leb 1 x) (leb x (16 * n)) h .0)
-
-pub object-top : (n x : ℕ) → isObject n x ≡ true → x ≤ 16 * n
-object-top n x h = leb-true x (16 * n) (and-split (leb 1 x) (leb x (16 * n)) h .1)
-
 pub is-object : (n x : ℕ) → 1 ≤ x → x ≤ 16 * n → isObject n x ≡ true
 is-object n x low top = rw (le-leb 1 x low) (le-leb x (16 * n) top)
 
@@ -135,7 +130,7 @@ module _ {a b : ℕ} {w v : List ℕ} (e : Beside a b w v) (n c : ℕ) where
   page-kept h = page-same w v n c (λ p l. kept e h (c + p) (omega arith) (omega arith))
 
   pub object-at : Apart a b c (c + 16 * n) → (x : ℕ) → isObject n x ≡ true → at v (byObject c x) ≡ at w (byObject c x)
-  object-at h x l = let k = object-low n x l in let m = object-top n x l in kept e h (c + (x - 1)) (omega arith) (omega arith)
+  object-at h x l = let k = object-range n x l .0 in let m = object-range n x l .1 in kept e h (c + (x - 1)) (omega arith) (omega arith)
 
   pub object-kept : Apart a b c (c + 16 * n) → objectBit v n (byObject c) ≡ objectBit w n (byObject c)
   object-kept h = object-same w v n c (object-at h)
@@ -161,10 +156,10 @@ module _ {a b : ℕ} {w v : List ℕ} (e : Beside a b w v) (n : ℕ) where
       (page-same w v n _ (λ p l. kept e h (unflushedAt n p) (omega arith) (omega arith)))
     where
       word : (c : ℕ) → unflushedAt n 0 ≤ c → c + 16 * n ≤ colourAt n 1 → (x : ℕ) → isObject n x ≡ true → at v (byObject c x) ≡ at w (byObject c x)
-      word c l u x k = let low = object-low n x k in let top = object-top n x k in kept e h (byObject c x) (omega arith) (omega arith)
+      word c l u x k = let low = object-range n x k .0 in let top = object-range n x k .1 in kept e h (byObject c x) (omega arith) (omega arith)
 
   pub colours-kept : Apart a b (colourAt n 1) (workWords n) → colourAtObject v n ≡ colourAtObject w n
-  colours-kept h = colour-same w v n (λ x k. let low = object-low n x k in let top = object-top n x k in kept e h (colourAt n x) (omega arith) (omega arith))
+  colours-kept h = colour-same w v n (λ x k. let low = object-range n x k .0 in let top = object-range n x k .1 in kept e h (colourAt n x) (omega arith) (omega arith))
 
   pub pass-kept : Apart a b phaseAt activeAt → Apart a b (colourAt n 1) (workWords n) → passOf v n ≡ passOf w n
   pass-kept h k = pass-ext _ _ (ap phaseOf (kept e h phaseAt (omega arith) (omega arith)))

@@ -7,8 +7,8 @@ use mathlib.Core.List.{List}
 use mathlib.Core.Logic.{inl, inr}
 use lib.ListN.{length}
 use lib.Dec.{eqb, ltb}
-use borrow.Author.Tests.{eqb-true, eqb-false, eq-eqb, ne-eqb, ltb-true, lt-ltb, not-true}
-use Rattle.words.specs.Tests.{by-bool, clash, and-split}
+use borrow.Author.Tests.{eqb-true, eqb-false, ne-eqb, ltb-true, lt-ltb, not-true}
+use Rattle.words.specs.Tests.{by-bool, clash, and-split, eqb-swap}
 use Rattle.pages.specs.Geometry.{isRef, isRefAt}
 use Rattle.pages.specs.Objects.{wordOf}
 use Rattle.pages.specs.Soundness.{areaSound}
@@ -16,17 +16,16 @@ use Rattle.areas.specs.Layout.{knownAt, prunedAt}
 use Rattle.calls.specs.Objects.{learned}
 use Rattle.collector.specs.Bits.{_and_, _or_, anyb, anyb-elim, and-l, and-r, true-and, false-and, and-false, or-true, or-false}
 use Rattle.collector.specs.Objects as Objects
-use Rattle.collector.specs.Objects.{Obj, points}
+use Rattle.collector.specs.Objects.{points}
 use Rattle.collector.specs.State.{add}
 use Rattle.collector.proofs.Tables.{is-false}
 use Rattle.views.specs.View.{view}
 use Rattle.shown.specs.Tables.{objectBit, locksOf, tablesOf, passOf}
 use Rattle.shown.proofs.Frames.{Beside, beside-self, beside-gain, wider, later, tables-ext, page-kept, object-kept, flag-kept, locks-kept, pass-kept}
 use Rattle.shown.proofs.Masks.{object-gain}
-use Rattle.shown.proofs.Areas.{view-here, view-word, reference, free-word}
-
-eqb-swap : (x y : ℕ) → eqb x y ≡ eqb y x
-eqb-swap x y = by-bool (eqb y x) (λ e. rw (e, eqb-true y x e) (eq-eqb x x refl)) (λ e. rw e (ne-eqb x y (λ z. eqb-false y x e (sym z))))
+use Rattle.page_laws.specs.SoundFacts.{free-zero}
+use Rattle.views.proofs.Effects.{view-occ, view-word}
+use Rattle.shown.proofs.Areas.{reference}
 
 -- one more word: old, what was known before; txn, it is t; some, the object is not nothing; before, a word before names it; next, this
 -- word does; same, it is this word's value
@@ -84,7 +83,7 @@ module _ (a w : List ℕ) (n t o : ℕ) (sound : areaSound a n ≡ true) (low : 
   -- a free object names nothing
   named-free : (y : ℕ) → view a o .occ ≡ false → named 8 y ≡ false
   named-free y e = is-false (named 8 y) (λ h. anyb-elim 8 _ (and-r _ _ h) (λ f l k. eqb-false y 0 (not-true (eqb y 0) (and-l _ _ h))
-      (sym (eqb-true _ _ (and-r _ _ k)) ∙ view-word a o f low l ∙ free-word a n sound o f low top l (sym (ap (λ (b : Obj). b .occ) (view-here a o low)) ∙ e))))
+      (sym (eqb-true _ _ (and-r _ _ k)) ∙ view-word a o low f l ∙ free-zero a n o sound low top f l (sym (view-occ a o low) ∙ e))))
 
   named-points : (y : ℕ) → named 8 y ≡ points (view a o) y
   unfolding points Objects.fields
@@ -94,7 +93,7 @@ module _ (a w : List ℕ) (n t o : ℕ) (sound : areaSound a n ≡ true) (low : 
     -- a reference's word, and no other, names its object
     names : (f y : ℕ) → (isRef a o f && not (eqb (wordOf a o f) 0)) ≡ true → (Objects.isRef (view a o) f and eqb (view a o .word f) y) ≡ eqb y (wordOf a o f)
     unfolding Objects.isRef
-    names f y e = let r = target f e in rw (view-word a o f low (omega arith), lt-ltb f 4 (r .0)) (true-and (eqb (wordOf a o f) y) ∙ eqb-swap (wordOf a o f) y)
+    names f y e = let r = target f e in rw (view-word a o low f (omega arith), lt-ltb f 4 (r .0)) (true-and (eqb (wordOf a o f) y) ∙ eqb-swap (wordOf a o f) y)
 
     some-object : (f y : ℕ) → (isRef a o f && not (eqb (wordOf a o f) 0)) ≡ true → eqb y (wordOf a o f) ≡ true → not (eqb y 0) ≡ true
     some-object f y e q = rw (eqb-true y (wordOf a o f) q) (and-split (isRef a o f) (not (eqb (wordOf a o f) 0)) e .1)
@@ -102,7 +101,7 @@ module _ (a w : List ℕ) (n t o : ℕ) (sound : areaSound a n ≡ true) (low : 
     no-name : (f y : ℕ) → (isRef a o f && not (eqb (wordOf a o f) 0)) ≡ false → not (eqb y 0) ≡ true → (Objects.isRef (view a o) f and eqb (view a o .word f) y) ≡ false
     unfolding Objects.isRef isRefAt
     no-name f y e z = by-bool (ltb f 4)
-        (λ l. let k = ltb-true f 4 l in rw (view-word a o f low (omega arith), l, true-and) (ne-eqb (wordOf a o f) y (λ q. clash z (rw (l, q) at e))))
+        (λ l. let k = ltb-true f 4 l in rw (view-word a o low f (omega arith), l, true-and) (ne-eqb (wordOf a o f) y (λ q. clash z (rw (l, q) at e))))
         (λ l. rw l (false-and (eqb (view a o .word f) y)))
 
     learned-known : (k : ℕ) → objectBit (learned a w n t o k) n (knownAt n) ≡ (λ u y. objectBit w n (knownAt n) u y or (eqb u t and named k y))

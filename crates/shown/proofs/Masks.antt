@@ -18,8 +18,9 @@ use Rattle.areas.specs.Tables.{at, has, gain, lose, flag}
 use Rattle.calls.specs.Transactions.{endedEntry}
 use Rattle.collector.specs.Bits.{_and_, _or_, or-true, or-false, and-true, and-false}
 use Rattle.collector.specs.State.{add, remove, drop}
+use Rattle.page_laws.specs.Places.{object-range}
 use Rattle.shown.specs.Tables.{pageBit, objectBit, flagBit}
-use Rattle.shown.proofs.Frames.{Beside, under, byPage, byObject, object-low, object-top, is-object}
+use Rattle.shown.proofs.Frames.{Beside, under, byPage, byObject, is-object}
 
 -- The three changes of one bit, in words of tests: small, the transaction is one; here, the number has a word; txn and same, it is the
 -- transaction and the number of the change; old and new, the bit before and after.
@@ -85,7 +86,7 @@ page-apart : (n c p q : ℕ) → ltb q n ≡ true → c + q ≡ c + p → q ≡ 
 page-apart n c p q l e = omega arith
 
 object-apart : (n c x y : ℕ) → 1 ≤ x → isObject n y ≡ true → byObject c y ≡ byObject c x → y ≡ x
-object-apart n c x y h l e = let k = object-low n y l in omega arith
+object-apart n c x y h l e = let k = object-range n y l .0 in omega arith
 
 module _ (w : List ℕ) (n c t : ℕ) where
   module _ (p : ℕ) (h : p < n) (long : c + n ≤ length w) where
@@ -120,7 +121,7 @@ module _ {a b d e c : ℕ} {w u v : List ℕ} (f : ℕ → ℕ) (n : ℕ) (befor
 
   pub over-object : Beside d e (over f u (byObject c 1) (16 * n)) v → c + 16 * n ≤ d → c + 16 * n ≤ length w
       → (x : ℕ) → isObject n x ≡ true → at v (byObject c x) ≡ f (at w (byObject c x))
-  over-object after l long x k = let low = object-low n x k in let top = object-top n x k in let z : c + 0 ≡ c = omega arith in
+  over-object after l long x k = let low = object-range n x k .0 in let top = object-range n x k .1 in let z : c + 0 ≡ c = omega arith in
       after .below (byObject c x) (omega arith)
       ∙ rw z (over-inside f u c (16 * n) (x - 1) (let q = before .same-length in omega arith) (omega arith))
       ∙ ap f (before .above (byObject c x) (omega arith))

@@ -26,7 +26,8 @@ use Rattle.shown.proofs.Frames.{Beside, beside-self, beside-gain, wider
 use Rattle.shown.proofs.Masks.{page-gain, object-gain}
 use Rattle.shown.proofs.Phases.{phase-marking}
 use Rattle.shown.proofs.Colours.{grey-beside, grey-colour}
-use Rattle.shown.proofs.Areas.{view-word, reference}
+use Rattle.views.proofs.Effects.{view-word}
+use Rattle.shown.proofs.Areas.{reference}
 
 -- the machine's tables with more PRT entries, and with t's records of page p not flushed
 abbrev grown : Tables → (ℕ → ℕ → Bool) → Tables
@@ -78,7 +79,7 @@ same-and false b c = refl
 
 pub pruned-is : (a : List ℕ) (o f v y : ℕ) → 1 ≤ o → f < 8 → Calls.pruned (view a o) f v y ≡ (prunes a o f v and eqb y (wordOf a o f))
 unfolding Objects.isRef isRefAt
-pruned-is a o f v y low h = rw (view-word a o f low h) (by-bool (eqb y (wordOf a o f))
+pruned-is a o f v y low h = rw (view-word a o low f h) (by-bool (eqb y (wordOf a o f))
     (λ e. rw (e, eqb-true y (wordOf a o f) e, eq-eqb (wordOf a o f) (wordOf a o f) refl)
     (and-true _ ∙ same-and (ltb f 4) (not (eqb (wordOf a o f) 0)) (not (eqb (wordOf a o f) v)) ∙ sym (and-true (prunes a o f v))))
     (λ e. rw (e, ne-eqb (wordOf a o f) y (λ z. eqb-false y (wordOf a o f) e (sym z))) (and-false _ ∙ sym (and-false (prunes a o f v)))))

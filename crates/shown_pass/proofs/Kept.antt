@@ -12,15 +12,13 @@ use Rattle.pages.specs.Geometry.{isObject}
 use Rattle.areas.specs.Layout.{unflushedAt, knownAt, colourAt}
 use Rattle.areas.specs.Tables.{at, withPass}
 use Rattle.collector.specs.Bits.{_and_}
-use Rattle.shown.proofs.Frames.{locks-ext, tables-ext, byObject, object-low, object-top, page-same, object-same, flag-same, colour-same}
+use Rattle.shown.proofs.Frames.{locks-ext, tables-ext, byObject, page-same, object-same, flag-same, colour-same}
 use Rattle.shown.specs.Tables.{pageBit, objectBit, colourAtObject, locksOf, tablesOf}
+use Rattle.page_laws.specs.Places.{object-range}
 
 -- v has w's words from a up to b
 abbrev pub Fixed : List ℕ → List ℕ → ℕ → ℕ → Type 0
 Fixed v w a b = (i : ℕ) → a ≤ i → i < b → at v i ≡ at w i
-
-pub object-range : (n x : ℕ) → isObject n x ≡ true → (1 ≤ x) × (x ≤ 16 * n)
-object-range n x h = (object-low n x h, object-top n x h)
 
 module _ (v w : List ℕ) (n : ℕ) where
   pub colour-kept : Fixed v w (6 + 51 * n) (6 + 67 * n) → colourAtObject v n ≡ colourAtObject w n

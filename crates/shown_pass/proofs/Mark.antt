@@ -1,5 +1,5 @@
 -- A marking step: the scan of an object and the turn to sweeping, read as the machine's. n is the number of pages. Assumes nothing.
-use Prim.Native.Nat.{ℕ, zero, suc, _+_, _*_, _-_, _≤_, _<_}
+use Prim.Native.Nat.{ℕ, zero, suc, _+_, _*_, _≤_, _<_}
 use native.Mathlib.Omega.{arith}
 use mathlib.Core.Path.{_≡_, refl, sym, ap, _∙_}
 use mathlib.Core.Bool.{Bool, true, false, not, cond, _&&_}
@@ -21,7 +21,8 @@ use Rattle.collector.specs.State as M
 use Rattle.collector.specs.State.{Colour, white, grey, black, whiteToGrey}
 use Rattle.views.specs.View.{view}
 use Rattle.shown.specs.Tables.{colourOf, colourAtObject, phaseOf, locksOf, tablesOf, passOf}
-use Rattle.shown_pass.proofs.Kept.{object-range, locks-kept, tables-kept, colour-kept, pass-other, pass-phase, pass-page, pass-steps}
+use Rattle.page_laws.specs.Places.{object-range}
+use Rattle.shown_pass.proofs.Kept.{locks-kept, tables-kept, colour-kept, pass-other, pass-phase, pass-page, pass-steps}
 
 -- the machine's greying, twice and not at all
 grey-twice : (a b : Bool) (c : Colour) → M.greyed a (M.greyed b c) ≡ M.greyed (a or b) c

@@ -1,5 +1,5 @@
 -- Words that are 0 or not, as tables of bits read them. n is the number of pages. Assumes nothing.
-use Prim.Native.Nat.{ℕ, _-_, _^_, _<_}
+use Prim.Native.Nat.{ℕ, _^_, _<_}
 use native.Mathlib.Omega.{arith}
 use mathlib.Core.Path.{_≡_, refl, sym, _∙_}
 use mathlib.Core.Bool.{true, not}
@@ -11,7 +11,7 @@ use Rattle.words.specs.Tests.{by-bool, clash}
 use Rattle.words.specs.Bits.{bit, bit-none, no-bits, withoutBit, without-same, without-other, without-le}
 use Rattle.pages.specs.Geometry.{isObject}
 use Rattle.areas.specs.Tables.{at, has, flag}
-use Rattle.collector.specs.Bits.{_and_, _or_, anyb, anyb-intro, anyb-elim, true-and, or-l, or-r, or-cases}
+use Rattle.collector.specs.Bits.{_and_, anyb, anyb-intro, anyb-elim, true-and, or-l, or-r, or-cases}
 use Rattle.collector.specs.Objects.{txns}
 use Rattle.collector.specs.State.{some, carried}
 use Rattle.shown.specs.Tables.{objectBit, flagBit}

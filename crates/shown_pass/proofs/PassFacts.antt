@@ -12,10 +12,10 @@ use Rattle.pages.specs.Geometry.{isObject}
 use Rattle.areas.specs.Layout.{readersAt, writersAt, colourAt}
 use Rattle.areas.specs.Tables.{at, isGrey}
 use Rattle.calls.specs.Pass.{lowestGrey, locked}
-use Rattle.collector.specs.Bits.{_and_, and-false}
+use Rattle.collector.specs.Bits.{and-false}
 use Rattle.collector.specs.State.{white, grey}
 use Rattle.shown.specs.Tables.{pageBit, colourOf, colourAtObject}
-use Rattle.shown_pass.proofs.Kept.{object-range}
+use Rattle.page_laws.specs.Places.{object-range}
 
 grey-one : (c : ℕ) → colourOf c ≡ grey → c ≡ 1
 grey-one zero h = let z : _≡_ {A = ℕ} 0 1 = cc in absurd (omega arith)

@@ -19,7 +19,8 @@ use Rattle.collector.specs.Objects.{txns}
 use Rattle.collector.specs.State as M
 use Rattle.collector.specs.State.{white, grey, some}
 use Rattle.shown.specs.Tables.{pageBit, objectBit, flagBit, colourOf, colourAtObject, locksOf, tablesOf, passOf}
-use Rattle.shown_pass.proofs.Kept.{object-range, locks-kept, known-kept, dirty-kept}
+use Rattle.page_laws.specs.Places.{object-range}
+use Rattle.shown_pass.proofs.Kept.{locks-kept, known-kept, dirty-kept}
 use Rattle.shown_pass.proofs.Masks.{unflagged-bit, unflagged-anyb, some-is}
 use Rattle.shown_pass.proofs.Mark.{moved-locks, moved-tables, moved-pass}
 

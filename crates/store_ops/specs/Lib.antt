@@ -1,4 +1,3 @@
--- Laws for the code of the calls: lengths of the working tables, room in the log, and records that may be appended.
+-- Laws for the code of the calls: lengths of the working tables, room in the log.
 pub mod Tables
 pub mod Logs
-pub mod Kinds

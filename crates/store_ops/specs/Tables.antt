@@ -1,17 +1,19 @@
 -- Working tables after a change of one word or of a run of words. Assumes nothing.
-use Prim.Native.Nat.{ℕ, zero, suc, _+_, _*_, _≤_}
+use Prim.Native.Nat.{ℕ, zero, suc, _+_, _<_}
 use mathlib.Core.Path.{_≡_, sym, _∙_}
 use mathlib.Core.Bool.{true, false, _&&_}
 use mathlib.Core.List.{List}
-use lib.ListN.{length, getD, set, length-set}
-use lib.Dec.{leb}
+use lib.ListN.{getD, set}
+use lib.Dec.{ltb}
 use native.Mathlib.Omega.{arith}
-use borrow.Author.Tests.{leb-true, eq-eqb, ne-eqb}
-use Rattle.words.specs.Tests.{by-bool, and-split, and-t, and-f, if-t, if-f}
+use borrow.Author.Tests.{ltb-true, eq-eqb, ne-eqb}
+use Rattle.words.specs.Tests.{and-split, and-t, and-f, if-t, if-f}
 use Rattle.words.specs.Spans.{over, over-next}
 use Rattle.pages.specs.Geometry.{objectCount, isObject}
+use Rattle.page_laws.specs.Places.{object-range}
+use Rattle.records.specs.Records.{txnCount}
 use Rattle.areas.specs.Layout.{colourAt}
-use Rattle.areas.specs.Tables.{at, coloured, isWhite, mayMark, greyed}
+use Rattle.areas.specs.Tables.{isTxn, at, mayMark, coloured, greyed}
 
 -- one more turn of a loop over a run of words
 pub over-turn : (f : ℕ → ℕ) (w : List ℕ) (a k : ℕ) (x : List ℕ) (v : ℕ) → x ≡ over f w a k → v ≡ f (getD x (a + k) 0) → set x (a + k) v ≡ over f w a (k + 1)
@@ -26,13 +28,9 @@ over-join f w a m (suc k) =
     let d : a + m + k ≡ a + (m + k) = omega arith in
     rw (e, over, over-join f w a m k, d)
 
--- what an object of n pages is, in numbers
-pub object-facts : (n o : ℕ) → isObject n o ≡ true → (1 ≤ o) × (o ≤ objectCount n)
-object-facts n o h = let p = and-split (leb 1 o) (leb o (objectCount n)) h in (leb-true _ _ (p .0), leb-true _ _ (p .1))
-
 -- what a pass may mark is an object
 pub mark-facts : (w : List ℕ) (n o : ℕ) → mayMark w n o ≡ true → (1 ≤ o) × (o ≤ objectCount n)
-mark-facts w n o h = object-facts n o h
+mark-facts w n o h = object-range n o h
 
 -- an object that turns grey, and one that does not, its colour standing at i
 module _ (w : List ℕ) (n o : ℕ) where
@@ -49,6 +47,6 @@ module _ (w : List ℕ) (n o : ℕ) where
     unfolding greyed
     greyed-marked e = sym (if-f _ _ _ (and-t _ _ h ∙ ne-eqb _ _ (λ z. e (rw place z))))
 
-  pub length-greyed : length (greyed w n o) ≡ length w
-  unfolding greyed
-  length-greyed = by-bool (mayMark w n o && isWhite w n o) (λ e. rw e (length-set w (colourAt n o) 1)) (λ e. rw e)
+-- a transaction and a page in range
+pub page-range : (n t p : ℕ) → isTxn t && ltb p n ≡ true → (t < txnCount) × (p < n)
+page-range n t p h = let q = and-split (isTxn t) (ltb p n) h in (ltb-true _ _ (q .0), ltb-true _ _ (q .1))

@@ -6,7 +6,7 @@ ghost use Rattle.areas.specs.Layout.{HasTables, phaseAt};
 ghost use Rattle.areas.specs.Tables.{has, gain, lose, canRead, canWrite, knows, mayMark, greyed};
 ghost use Rattle.calls.specs.Transactions.{leaves, endedEntry, endedEntries};
 use areas::layout;
-use page_ops::bits;
+use bit_ops::bits;
 use pages::SLOTS;
 
 // Whether t is in the mask at word i.

@@ -14,7 +14,7 @@ ghost use Rattle.pass_record.specs.Step.{passOf};
 ghost use Rattle.sweeping.specs.Sweeps.{unmarkedMap, freedIn, sweepNeeds, sweptAreas};
 use areas::Check;
 use areas::Refusal;
-use page_ops::bits;
+use bit_ops::bits;
 use page_ops::change;
 use pass_record::Pass;
 use records::Record;

@@ -20,7 +20,7 @@ use Rattle.calls.specs.Transactions.{allFlushed, beginCheck, commitCheck}
 use Rattle.acceptance.specs.Entered.{Open}
 use Rattle.acceptance.specs.Transactions.{begin-facts, commit-facts}
 use Rattle.store_ops.specs.Logs.{Fits, open-fits}
-use Rattle.store_ops.specs.Kinds.{begin-sound, commit-sound}
+use Rattle.record_laws.specs.SoundRecords.{begin-sound, commit-sound}
 
 -- the lists that a check does not read
 pub begin-as : (s c r g k w : List ℕ) (t : ℕ) {x : Check} → x ≡ beginCheck (areas [] [] [] g k w) t → x ≡ beginCheck (areas s c r g k w) t

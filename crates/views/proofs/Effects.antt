@@ -1,5 +1,5 @@
 -- The objects that an area shows after a record took effect, and after it was undone. n is the number of pages. Assumes nothing.
-use Prim.Native.Nat.{ℕ, zero, suc, _*_, _-_, _≤_, _<_}
+use Prim.Native.Nat.{ℕ, zero, suc, _*_, _≤_, _<_}
 use native.Mathlib.Omega.{arith}
 use mathlib.Core.Path.{_≡_, refl, sym, ap, _∙_}
 use mathlib.Core.Bool.{Bool, true, false, _&&_}
@@ -11,10 +11,11 @@ use Rattle.words.specs.Tests.{if, by-bool, and-true, and-false, or-true, or-fal
 use Rattle.words.specs.Bits.{bit}
 use Rattle.pages.specs.Geometry.{pageOf, slotOf}
 use Rattle.pages.specs.Objects.{occupied, wordOf, occupy, release, written, released}
+use Rattle.page_laws.specs.Places.{map-set}
 use Rattle.collector.specs.Objects.{Obj, blank, fresh, put}
 use Rattle.views.specs.View.{shown, view}
 use Rattle.views.proofs.Places.{slot-small, same-object, page-small}
-use Rattle.views.proofs.Slots.{here, within, taken-occ, freed-occ, taken-word, freed-word, released-occ, released-word, put-map, put-word}
+use Rattle.views.proofs.Slots.{here, within, taken-occ, freed-occ, taken-word, freed-word, released-occ, released-word, put-word}
 
 pub obj-ext : (a b : Obj) → a .occ ≡ b .occ → ((f : ℕ) → a .word f ≡ b .word f) → a ≡ b
 obj-ext a b p q = λ i. record { occ = p i; word = λ f. q f i }
@@ -34,6 +35,22 @@ pub view-by : (a : List ℕ) (b : ℕ → Obj) → ((x : ℕ) → 1 ≤ x → sh
 unfolding view
 view-by a b h z zero = sym z
 view-by a b h z (suc x) = rw (le-leb 1 (suc x) (omega arith)) (h (suc x) (omega arith))
+
+-- what a view shows of an object from 1 on
+module _ (a : List ℕ) (x : ℕ) (hx : 1 ≤ x) where
+  pub view-here : view a x ≡ shown a x
+  unfolding view
+  view-here = rw (le-leb 1 x hx)
+
+  pub view-occ : view a x .occ ≡ occupied a x
+  view-occ = rw view-here
+
+  pub view-word : (f : ℕ) → f < 8 → view a x .word f ≡ wordOf a x f
+  view-word f l = rw (view-here, lt-ltb f 8 l)
+
+  pub view-free : occupied a x ≡ false → ((f : ℕ) → f < 8 → wordOf a x f ≡ 0) → view a x ≡ blank
+  unfolding blank
+  view-free e z = rw view-here (obj-ext _ _ e (λ f. by-bool (ltb f 8) (λ h. rw h (z f (ltb-true f 8 h))) (λ h. rw h refl)))
 
 module _ (n : ℕ) (a : List ℕ) (len : length a ≡ 129 * n) (o : ℕ) (ho : 1 ≤ o) (lo : o ≤ 16 * n) where
   not-zero : eqb 0 o ≡ false
@@ -66,13 +83,13 @@ module _ (n : ℕ) (a : List ℕ) (len : length a ≡ 129 * n) (o : ℕ) (ho : 1
   written-view f v hf zero = rw not-zero refl
   written-view f v hf (suc k) = let x = suc k in let l : 1 ≤ suc k = omega arith in rw (le-leb 1 (suc k) l, le-leb 1 o ho) (by-bool (eqb (suc k) o)
       (λ e. rw (e, eqb-true (suc k) o e) (obj-ext _ _
-      (ap (λ (m : ℕ). bit m (slotOf o)) (put-map n a len (pageOf o) (slotOf o) f v (page-small n o ho lo) (slot-small o) hf (pageOf o)))
+      (ap (λ (m : ℕ). bit m (slotOf o)) (map-set a (pageOf o) (slotOf o) f v (slot-small o) hf (omega arith) (pageOf o)))
       (λ g. by-bool (ltb g 8)
       (λ h. rw h (put-word n a len (pageOf o) (slotOf o) f v (page-small n o ho lo) (slot-small o) hf (pageOf o) (slotOf o) g (slot-small o) (ltb-true g 8 h)
       ∙ rw (here-object o o ho ho, eq-eqb o o refl) (if-cond (eqb g f) v (wordOf a o g))))
       (λ h. rw (h, ne-eqb g f (λ z. let y = ltb-false g 8 h in omega arith)) refl))))
       (λ e. rw e (obj-ext _ _
-      (ap (λ (m : ℕ). bit m (slotOf x)) (put-map n a len (pageOf o) (slotOf o) f v (page-small n o ho lo) (slot-small o) hf (pageOf x)))
+      (ap (λ (m : ℕ). bit m (slotOf x)) (map-set a (pageOf o) (slotOf o) f v (slot-small o) hf (omega arith) (pageOf x)))
       (λ g. by-bool (ltb g 8)
       (λ h. rw h (put-word n a len (pageOf o) (slotOf o) f v (page-small n o ho lo) (slot-small o) hf (pageOf x) (slotOf x) g (slot-small x) (ltb-true g 8 h)
       ∙ rw (here-object o x ho l, e) refl))

@@ -2,5 +2,4 @@
 pub mod Places
 pub mod Slots
 pub mod Effects
-pub mod Sound
 pub mod Records

@@ -1,14 +1,8 @@
 -- Where the words of objects stand: no two at one place. Assumes nothing.
-use Prim.Native.Nat.{ℕ, _+_, _*_, _-_, _≤_, _<_}
+use Prim.Native.Nat.{ℕ, _*_, _≤_, _<_}
 use native.Mathlib.Omega.{arith}
 use mathlib.Core.Path.{_≡_}
-use Rattle.pages.specs.Geometry.{pageAt, slotAt, objectAt, pageOf, slotOf}
-
-same-page : (a b r q : ℕ) → 129 * a + r ≡ 129 * b + q → r < 129 → q < 129 → (a ≡ b) × (r ≡ q)
-same-page a b r q e l k = (omega arith, omega arith)
-
-pub no-map : (p q s f : ℕ) → s < 16 → f < 8 → slotAt p s f ≡ pageAt q → ⊥
-no-map p q s f hs hf e = let k = same-page p q (1 + 8 * s + f) 0 (omega arith) (omega arith) (omega arith) in omega arith
+use Rattle.pages.specs.Geometry.{pageAt, objectAt, pageOf, slotOf}
 
 pub slot-small : (o : ℕ) → slotOf o < 16
 slot-small o = omega arith

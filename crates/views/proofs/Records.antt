@@ -1,25 +1,24 @@
 -- The objects that an area shows after a sound record took effect, and after it was undone. n is the number of pages. Assumes nothing.
 use Prim.Native.Nat.{ℕ, zero, suc, _*_, _≤_}
 use native.Mathlib.Omega.{arith}
-use mathlib.Core.Path.{_≡_, refl, sym, _∙_}
+use mathlib.Core.Path.{_≡_, refl, _∙_}
 use mathlib.Core.Bool.{Bool, true, false, _&&_, _||_}
 use mathlib.Core.List.{List}
-use lib.ListN.{length, length-set}
+use lib.ListN.{length}
 use lib.Dec.{eqb}
-use borrow.Author.Tests.{eqb-true, eqb-false, eq-eqb, ne-eqb}
-use Rattle.words.specs.Tests.{if, by-bool}
+use borrow.Author.Tests.{eqb-true}
+use Rattle.words.specs.Tests.{if, by-bool, eqb-swap}
 use Rattle.words.specs.Bits.{bit}
-use Rattle.pages.specs.Geometry.{slotAt, pageOf, slotOf}
+use Rattle.pages.specs.Geometry.{pageOf, slotOf}
 use Rattle.pages.specs.Objects.{released}
 use Rattle.records.specs.declared.Record.{Record}
 use Rattle.records.specs.Soundness.{namesObject, recordSound}
 use Rattle.records.specs.Effects.{effect, undone}
+use Rattle.record_laws.specs.RecordLaws.{SoundRecord, sound-record, named-object}
+use Rattle.record_laws.specs.SoundRecords.{sweep-spares}
 use Rattle.collector.specs.Objects.{Obj, blank, put}
 use Rattle.views.specs.View.{view, applied, unapplied}
-use Rattle.views.proofs.Places.{slot-small, page-small}
-use Rattle.views.proofs.Slots.{length-taken, length-freed, length-released}
 use Rattle.views.proofs.Effects.{occupy-view, release-view, written-view, released-view}
-use Rattle.views.proofs.Sound.{SoundRecord, sound-record}
 
 -- the four kinds that change pages, and the others
 pub data Kind (r : Record) : Type 0 where
@@ -38,29 +37,25 @@ module _ (n : ℕ) (a : List ℕ) (len : length a ≡ 129 * n) (r : Record) (ok 
   facts = sound-record n r ok
 
   range : namesObject r ≡ true → (1 ≤ r .object) × (r .object ≤ 16 * n)
-  range h = facts .object h
-
-  swap : (x : ℕ) → eqb x (r .object) ≡ eqb (r .object) x
-  swap x = by-bool (eqb x (r .object)) (λ e. rw (e, eqb-true x (r .object) e, eq-eqb (r .object) (r .object) refl) refl)
-      (λ e. rw (e, ne-eqb (r .object) x (λ z. eqb-false x (r .object) e (sym z))) refl)
+  range = named-object n r facts
 
   put-here : (x f v : ℕ) → if (eqb (r .object) x) (put (view a (r .object)) f v) (view a x) ≡ if (eqb (r .object) x) (put (view a x) f v) (view a x)
   put-here x f v = by-bool (eqb (r .object) x) (λ e. rw (e, eqb-true (r .object) x e) refl) (λ e. rw e refl)
 
   no-root : (x : ℕ) → r .kind ≡ 7 → x ≡ 0 → (eqb (r .object) (pageOf x) && bit (r .new) (slotOf x)) ≡ false
-  no-root x k z = rw z (facts .spared k)
+  no-root x k z = rw z (sweep-spares n r facts k)
 
   swept-view : r .kind ≡ 7 → (x : ℕ) → view (released a (r .object) (r .new)) x ≡ if (eqb (r .object) (pageOf x) && bit (r .new) (slotOf x)) blank (view a x)
   unfolding view
   swept-view k zero = rw (no-root 0 k refl) refl
-  swept-view k (suc y) = released-view n a len (r .object) (r .new) (facts .page k) (suc y) (omega arith)
+  swept-view k (suc y) = released-view n a len (r .object) (r .new) (facts .sweep k .0) (suc y) (omega arith)
 
   pub effect-view : (x : ℕ) → view (effect a r) x ≡ applied r x (view a x)
   unfolding effect applied
   effect-view x = elim (kind-of r) [
-    | creates k ↦ (let i = range (rw k refl) in rw k (occupy-view n a len (r .object) (i .0) (i .1) x ∙ rw (swap x) refl))
-    | sets k ↦ (let i = range (rw k refl) in rw k (written-view n a len (r .object) (i .0) (i .1) (r .field) (r .new) (facts .field k) x ∙ rw (swap x) (put-here x (r .field) (r .new))))
-    | uncreates k ↦ (let i = range (rw k refl) in rw k (release-view n a len (r .object) (i .0) (i .1) x ∙ rw (swap x) (or-right (eqb (r .object) x) (view a x))))
+    | creates k ↦ (let i = range (rw k refl) in rw k (occupy-view n a len (r .object) (i .0) (i .1) x ∙ rw (eqb-swap x (r .object)) refl))
+    | sets k ↦ (let i = range (rw k refl) in rw k (written-view n a len (r .object) (i .0) (i .1) (r .field) (r .new) (facts .field-below) x ∙ rw (eqb-swap x (r .object)) (put-here x (r .field) (r .new))))
+    | uncreates k ↦ (let i = range (rw k refl) in rw k (release-view n a len (r .object) (i .0) (i .1) x ∙ rw (eqb-swap x (r .object)) (or-right (eqb (r .object) x) (view a x))))
     | frees k ↦ rw k (swept-view k x)
     | other p q s t ↦ rw (p, q, s, t) refl
   ]
@@ -72,29 +67,9 @@ module _ (n : ℕ) (a : List ℕ) (len : length a ≡ 129 * n) (r : Record) (ok 
   pub undone-view : (x : ℕ) → view (undone a r) x ≡ unapplied r x (view a x)
   unfolding undone unapplied
   undone-view x = elim (kind-of r) [
-    | creates k ↦ (let i = range (rw k refl) in rw k (release-view n a len (r .object) (i .0) (i .1) x ∙ rw (swap x) refl))
-    | sets k ↦ (let i = range (rw k refl) in rw k (written-view n a len (r .object) (i .0) (i .1) (r .field) (r .old) (facts .field k) x ∙ rw (swap x) (put-here x (r .field) (r .old))))
-    | uncreates k ↦ (let i = range (rw k refl) in rw k (occupy-view n a len (r .object) (i .0) (i .1) x ∙ rw (swap x) refl))
-    | frees k ↦ rw k refl
-    | other p q s t ↦ rw (p, q, s) refl
-  ]
-
-  pub length-effect : length (effect a r) ≡ length a
-  unfolding effect
-  length-effect = elim (kind-of r) [
-    | creates k ↦ (let i = range (rw k refl) in rw k (length-taken n a len (pageOf (r .object)) (slotOf (r .object)) (page-small n (r .object) (i .0) (i .1)) (slot-small (r .object))))
-    | sets k ↦ rw k (length-set a (slotAt (pageOf (r .object)) (slotOf (r .object)) (r .field)) (r .new))
-    | uncreates k ↦ (let i = range (rw k refl) in rw k (length-freed n a len (pageOf (r .object)) (slotOf (r .object)) (page-small n (r .object) (i .0) (i .1)) (slot-small (r .object))))
-    | frees k ↦ rw k (length-released n a len (r .object) (r .new) (facts .page k) 16 (omega arith))
-    | other p q s t ↦ rw (p, q, s, t) refl
-  ]
-
-  pub length-undone : length (undone a r) ≡ length a
-  unfolding undone
-  length-undone = elim (kind-of r) [
-    | creates k ↦ (let i = range (rw k refl) in rw k (length-freed n a len (pageOf (r .object)) (slotOf (r .object)) (page-small n (r .object) (i .0) (i .1)) (slot-small (r .object))))
-    | sets k ↦ rw k (length-set a (slotAt (pageOf (r .object)) (slotOf (r .object)) (r .field)) (r .old))
-    | uncreates k ↦ (let i = range (rw k refl) in rw k (length-taken n a len (pageOf (r .object)) (slotOf (r .object)) (page-small n (r .object) (i .0) (i .1)) (slot-small (r .object))))
+    | creates k ↦ (let i = range (rw k refl) in rw k (release-view n a len (r .object) (i .0) (i .1) x ∙ rw (eqb-swap x (r .object)) refl))
+    | sets k ↦ (let i = range (rw k refl) in rw k (written-view n a len (r .object) (i .0) (i .1) (r .field) (r .old) (facts .field-below) x ∙ rw (eqb-swap x (r .object)) (put-here x (r .field) (r .old))))
+    | uncreates k ↦ (let i = range (rw k refl) in rw k (occupy-view n a len (r .object) (i .0) (i .1) x ∙ rw (eqb-swap x (r .object)) refl))
     | frees k ↦ rw k refl
     | other p q s t ↦ rw (p, q, s) refl
   ]

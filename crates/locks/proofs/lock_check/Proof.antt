@@ -1,7 +1,8 @@
 use native.Mathlib.Omega.{arith}
 use mathlib.Core.Path.{sym, _∙_, ap}
 use borrow.Author.Tests.{not-true, not-false}
-use Rattle.locks.specs.Checks.{answerTo, lock-outside, lock-inside, lock-inactive, lock-answer}
+use Rattle.store_ops.specs.Tables.{page-range}
+use Rattle.locks.specs.Checks.{answerTo, lock-outside, lock-inactive, lock-answer}
 use borrow.Author.Needs.{needs}
 use Rattle.locks.proofs.lock_check.Statement.{statement}
 use Rattle.locks.proofs.lock_check.Tie as tie
@@ -10,13 +11,13 @@ returns : tie.Need-returns
 returns c = lock-outside _ _ _ _ _ (not-true _ (c .if1 .taken))
 
 has-requires : tie.Need-has-requires
-has-requires c κs = let h = lock-inside (c .before .before .args .w .now) (c .before .before .args .n) (c .before .before .args .t) (c .before .before .args .p) (c .before .before .args .writing) (not-false _ (c .if1 .left)) in (omega arith, omega arith)
+has-requires c κs = let h = page-range (c .before .before .args .n) (c .before .before .args .t) (c .before .before .args .p) (not-false _ (c .if1 .left)) in (omega arith, omega arith)
 
 returns-2 : tie.Need-returns-2
 returns-2 c = lock-inactive _ _ _ _ _ (not-false _ (c .before .before .if1 .left)) (sym (c .before .has .ensures) ∙ not-true _ (c .if2 .taken))
 
 way-to-requires : tie.Need-way-to-requires
-way-to-requires c κs = let h = lock-inside (c .before .before .before .before .args .w .now) (c .before .before .before .before .args .n) (c .before .before .before .before .args .t) (c .before .before .before .before .args .p) (c .before .before .before .before .args .writing) (not-false _ (c .before .before .if1 .left)) in omega arith
+way-to-requires c κs = let h = page-range (c .before .before .before .before .args .n) (c .before .before .before .before .args .t) (c .before .before .before .before .args .p) (not-false _ (c .before .before .if1 .left)) in omega arith
 
 enum-told : tie.Need-enum-told
 enum-told c = search needs

@@ -3,7 +3,7 @@ use mathlib.Core.Path.{sym, _∙_}
 use borrow.Author.Tests.{not-true, not-false}
 use Rattle.areas.specs.Answers.{need-holds, need-fails}
 use Rattle.page_ops.specs.Agreement.{agrees}
-use Rattle.object_checks.specs.Tests.{page-range}
+use Rattle.store_ops.specs.Tables.{page-range}
 use Rattle.calls.specs.Objects.{flushCheck}
 use borrow.Author.Needs.{needs}
 use Rattle.object_checks.proofs.flush_check.Statement.{statement}

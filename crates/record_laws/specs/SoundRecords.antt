@@ -1,4 +1,4 @@
--- Records that calls append are sound. n is the number of pages. Assumes nothing.
+-- Records that calls append are sound: the bounds that each kind needs. n is the number of pages. Assumes nothing.
 use Prim.Native.Nat.{ℕ, _*_, _<_, _≤_}
 use mathlib.Core.Path.{_≡_}
 use mathlib.Core.Bool.{true, false, _&&_, _||_}
@@ -7,14 +7,14 @@ use native.Mathlib.Decide.{decLe}
 use native.Mathlib.Omega.{arith}
 use borrow.Author.Tests.{lt-ltb, le-leb, ne-eqb, eqb-true}
 use mathlib.Core.Logic.{inl, inr}
-use Rattle.words.specs.Tests.{all, or-cases, or-l, or-r}
+use Rattle.words.specs.Tests.{all, by-bool, or-cases, or-l, or-r}
 use Rattle.words.specs.Bits.{bit}
 use Rattle.pages.specs.Geometry.{pageOf, slotOf, root}
 use Rattle.records.specs.declared.Record.{Record}
 use Rattle.records.specs.Records.{beginOf, createOf, setOf, commitOf, abortedOf, uncreateOf, sweepOf}
 use Rattle.records.specs.Soundness.{wordSound, recordSound}
 use Rattle.records.specs.Effects.{undoing}
-use Rattle.record_laws.specs.RecordLaws.{sound-record}
+use Rattle.record_laws.specs.RecordLaws.{SoundRecord, sound-record}
 
 -- a word that may stand in a reference
 reference : (n f v : ℕ) → (f < 4 → v ≤ 16 * n) → leb 4 f || leb v (16 * n) ≡ true
@@ -58,3 +58,7 @@ undoing-sound n r h k = let s = sound-record n r h in elim (or-cases (eqb (r .ki
   | inr e ↦ (let d = eqb-true (r .kind) 3 e in let q = s .write d in
       rw d (set-sound n (r .txn) (s .txn-below) (r .object) (q .1) (r .field) (r .new) (r .old) (q .0) (s .field-below) (s .new-reference d) (s .old-reference d)))
 ]
+
+-- a sound sweep spares the root
+pub sweep-spares : (n : ℕ) (r : Record) → SoundRecord n r → r .kind ≡ 7 → eqb (r .object) (pageOf root) && bit (r .new) (slotOf root) ≡ false
+sweep-spares n r s k = by-bool (eqb (r .object) (pageOf root)) (λ e. rw (e, s .sweep-root k (eqb-true _ _ e))) (λ e. rw e)
