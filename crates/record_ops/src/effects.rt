@@ -1,10 +1,9 @@
 ghost use mathlib.Core.Path.{_≡_};
-ghost use mathlib.Core.Bool.{true};
-ghost use Prim.Native.Nat.{_+_, _*_, _/_, _≤_};
+ghost use Prim.Native.Nat.{_+_, _*_, _≤_};
 ghost use lib.ListN.{length};
 ghost use Rattle.records.specs.Records.{recorded};
-ghost use Rattle.records.specs.Soundness.{recordSound};
 ghost use Rattle.records.specs.Effects as spec;
+ghost use Rattle.record_ops.specs.InRange.{InRange};
 use page_ops::change;
 use records::Record;
 
@@ -47,7 +46,7 @@ pub fn undoing(r: Record) -> Record
 
 // What a record does to the pages: its kind decides.
 pub fn apply(a: &mut [u32], r: Record)
-    requires { ⌜ recordSound (length (now a) / 129) r ≡ true ⌝ }
+    requires { ⌜ InRange (now a) r ⌝ }
     ensures { λ _. ⌜ now (a .exit) ≡ spec.effect (now (a .entry)) r ⌝ }
 {
     let kind = r.kind;
@@ -65,7 +64,7 @@ pub fn apply(a: &mut [u32], r: Record)
 
 // What undoing a record does to the pages.
 pub fn take_back(a: &mut [u32], r: Record)
-    requires { ⌜ recordSound (length (now a) / 129) r ≡ true ⌝ }
+    requires { ⌜ InRange (now a) r ⌝ }
     ensures { λ _. ⌜ now (a .exit) ≡ spec.undone (now (a .entry)) r ⌝ }
 {
     let kind = r.kind;

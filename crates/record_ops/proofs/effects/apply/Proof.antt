@@ -2,25 +2,24 @@ use mathlib.Core.Path.{_∙_}
 use native.Mathlib.Omega.{arith}
 use borrow.Author.Needs.{needs}
 use Rattle.records.specs.Effects.{effect}
-use Rattle.record_laws.specs.RecordLaws.{sound-record}
 use Rattle.record_laws.specs.EffectLaws.{effect-none}
 use Rattle.record_ops.proofs.effects.apply.Statement.{statement}
 use Rattle.record_ops.proofs.effects.apply.Tie as tie
 
 occupy-requires : tie.Need-occupy-requires
-occupy-requires c κs = let h = sound-record _ _ (c .before .before .before .pre) .create (c .before .match .keys2) in omega arith
+occupy-requires c κs = let h = c .before .before .before .pre .create (c .before .match .keys2) in omega arith
 
 write-word-requires : tie.Need-write-word-requires
-write-word-requires c κs = let s = sound-record _ _ (c .before .before .before .pre) in let h = s .write (c .before .match .keys3) in let f = s .field-below in omega arith
+write-word-requires c κs = let h = c .before .before .before .pre .write (c .before .match .keys3) in omega arith
 
 release-requires : tie.Need-release-requires
-release-requires c κs = let h = sound-record _ _ (c .before .before .before .pre) .uncreate (c .before .match .keys6) in omega arith
+release-requires c κs = let h = c .before .before .before .pre .uncreate (c .before .match .keys6) in omega arith
 
 cast-release-slots : tie.Need-cast-release-slots
 cast-release-slots c = search needs
 
 release-slots-requires : tie.Need-release-slots-requires
-release-slots-requires c κs = let h = sound-record _ _ (c .before .before .before .before .pre) .sweep (c .before .before .match .keys7) in omega arith
+release-slots-requires c κs = let h = c .before .before .before .before .pre .sweep (c .before .before .match .keys7) in omega arith
 
 returns : tie.Need-returns
 unfolding effect

@@ -2,19 +2,18 @@ use mathlib.Core.Path.{_∙_}
 use native.Mathlib.Omega.{arith}
 use borrow.Author.Needs.{needs}
 use Rattle.records.specs.Effects.{undone}
-use Rattle.record_laws.specs.RecordLaws.{sound-record}
 use Rattle.record_laws.specs.EffectLaws.{undone-none}
 use Rattle.record_ops.proofs.effects.take_back.Statement.{statement}
 use Rattle.record_ops.proofs.effects.take_back.Tie as tie
 
 release-requires : tie.Need-release-requires
-release-requires c κs = let h = sound-record _ _ (c .before .before .before .pre) .create (c .before .match .keys1) in omega arith
+release-requires c κs = let h = c .before .before .before .pre .create (c .before .match .keys1) in omega arith
 
 write-word-requires : tie.Need-write-word-requires
-write-word-requires c κs = let s = sound-record _ _ (c .before .before .before .pre) in let h = s .write (c .before .match .keys2) in let f = s .field-below in omega arith
+write-word-requires c κs = let h = c .before .before .before .pre .write (c .before .match .keys2) in omega arith
 
 occupy-requires : tie.Need-occupy-requires
-occupy-requires c κs = let h = sound-record _ _ (c .before .before .before .pre) .uncreate (c .before .match .keys3) in omega arith
+occupy-requires c κs = let h = c .before .before .before .pre .uncreate (c .before .match .keys3) in omega arith
 
 same-length : tie.Need-same-length
 same-length c = search needs

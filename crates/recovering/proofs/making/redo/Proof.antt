@@ -4,6 +4,7 @@ use mathlib.Core.Path.{_≡_, refl, _∙_}
 use Prim.Native.Nat.{_≤_, _-_}
 use lib.ListN.{length}
 use Rattle.records.specs.Recovery.{redone}
+use Rattle.record_ops.specs.InRange.{sound-in-range}
 use Rattle.recovering.specs.Rebuilding.{redone-turn, sound-here}
 use Rattle.recovering.proofs.making.redo.Statement.{statement}
 use Rattle.recovering.proofs.making.redo.Tie as tie
@@ -22,7 +23,7 @@ record-at-requires : tie.Need-record-at-requires Inv-loop μ-loop
 record-at-requires c κs = search needs
 
 apply-requires : tie.Need-apply-requires Inv-loop μ-loop
-apply-requires c κs = sound-here (c .before .before .before .before .before .before .args .a .now) (c .before .before .before .loop .a) (c .before .before .before .before .before .before .args .log .now) (c .before .before .before .before .before .before .args .c) (c .before .before .before .loop .i) (c .record-at .result) (c .before .before .before .loop .inv .1) (c .record-at .ensures) (c .before .before .before .before .before .before .pre .1) (c .before .before .loop-test .taken)
+apply-requires c κs = sound-in-range _ _ (sound-here (c .before .before .before .before .before .before .args .a .now) (c .before .before .before .loop .a) (c .before .before .before .before .before .before .args .log .now) (c .before .before .before .before .before .before .args .c) (c .before .before .before .loop .i) (c .record-at .result) (c .before .before .before .loop .inv .1) (c .record-at .ensures) (c .before .before .before .before .before .before .pre .1) (c .before .before .loop-test .taken))
 
 add-i : tie.Need-add-i Inv-loop μ-loop
 add-i c = search needs

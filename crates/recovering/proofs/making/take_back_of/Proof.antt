@@ -3,6 +3,7 @@ use mathlib.Core.Path.{sym, _∙_}
 use borrow.Author.Tests.{not-true, not-false}
 use Rattle.words.specs.Tests.{if-t, if-f}
 use Rattle.record_laws.specs.RecordLaws.{sound-record}
+use Rattle.record_ops.specs.InRange.{sound-in-range}
 use borrow.Author.Needs.{needs}
 use Rattle.recovering.proofs.making.take_back_of.Statement.{statement}
 use Rattle.recovering.proofs.making.take_back_of.Tie as tie
@@ -17,7 +18,7 @@ returns : tie.Need-returns
 returns c = sym (if-f _ _ _ (sym (c .before .has-bit .ensures) ∙ not-true _ (c .if1 .taken)))
 
 take-back-requires : tie.Need-take-back-requires
-take-back-requires c κs = search needs
+take-back-requires c κs = sound-in-range _ _ (c .before .before .before .before .before .pre)
 
 same-length : tie.Need-same-length
 same-length c = search needs
