@@ -1,4 +1,3 @@
--- What a record may ask of a page area, what its words range over, and what transactions reserve as one scan of the log counts it.
+-- What a record may ask of a page area, and what transactions reserve as one scan of the log counts it.
 pub mod InRange
 pub mod Reserves
-pub mod Ranges
