@@ -13,7 +13,7 @@ use borrow.Author.Tests.{eq-eqb, ne-eqb}
 use Rattle.words.specs.Tests.{if, any, sum, by-bool, if-t, if-f, sum-next}
 use Rattle.words.specs.Bits.{bit}
 use Rattle.records.specs.declared.Record.{Record}
-use Rattle.records.specs.Records.{recordAt, isBegin, isChange}
+use Rattle.records.specs.Records.{txnCount, recordAt, isBegin, isChange}
 use Rattle.records.specs.Changes.{changesIn, changesLeft, reserveOf}
 
 -- what one more record of kind k makes of its transaction's share: 0 where it has not begun, else 1 and its creates and sets since
@@ -22,7 +22,7 @@ shareNext k x = if (eqb k 1) 1 (if (eqb k 2 || eqb k 3) (if (eqb x 0) 0 (x + 1))
 
 -- by transaction, its share of the first c records
 unfoldable pub sharesIn : List ℕ → ℕ → List ℕ
-sharesIn g zero = replicate 16 0
+sharesIn g zero = replicate txnCount 0
 sharesIn g (suc i) = let l = sharesIn g i in let r = recordAt g i in set l (r .txn) (shareNext (r .kind) (getD l (r .txn) 0))
 
 -- laws
@@ -36,7 +36,7 @@ shares-next g i l x r read e f =
     ∙ ap (λ (m : List ℕ). set m (recordAt g i .txn) (shareNext (recordAt g i .kind) (getD m (recordAt g i .txn) 0))) e
     ∙ ap (sharesIn g) (sym (add-one i))
 
-pub length-shares : (g : List ℕ) (c : ℕ) → length (sharesIn g c) ≡ 16
+pub length-shares : (g : List ℕ) (c : ℕ) → length (sharesIn g c) ≡ txnCount
 unfolding sharesIn
 length-shares g zero = refl
 length-shares g (suc i) = length-set (sharesIn g i) _ _ ∙ length-shares g i
@@ -67,9 +67,9 @@ unfolding any changesIn
 share-next g i t = let r = recordAt g i in
     share-step (any (λ j. isBegin (recordAt g j) t) i) (eqb (r .txn) t) (eqb (r .kind) 1) (eqb (r .kind) 2 || eqb (r .kind) 3) i (changesIn g t i)
 
-pub shares-at : (g : List ℕ) (c t : ℕ) → t < 16 → getD (sharesIn g c) t 0 ≡ shareOf g c t
+pub shares-at : (g : List ℕ) (c t : ℕ) → t < txnCount → getD (sharesIn g c) t 0 ≡ shareOf g c t
 unfolding sharesIn any
-shares-at g zero t h = getD-replicate 16 t 0 0 h
+shares-at g zero t h = getD-replicate txnCount t 0 0 h
 shares-at g (suc i) t h =
     let k = recordAt g i .kind in
     let p = recordAt g i .txn in
@@ -91,7 +91,7 @@ changes-le g t (suc i) = let r = recordAt g i in let h = changes-le g t i in by-
     (λ e. rw e (omega arith))
     (λ e. by-bool (isChange r t) (λ f. rw (e, f) (omega arith)) (λ f. rw (e, f) (omega arith)))
 
-pub shares-le : (g : List ℕ) (c : ℕ) (l : List ℕ) (t : ℕ) → l ≡ sharesIn g c → t < 16 → getD l t 0 ≤ c + 1
+pub shares-le : (g : List ℕ) (c : ℕ) (l : List ℕ) (t : ℕ) → l ≡ sharesIn g c → t < txnCount → getD l t 0 ≤ c + 1
 shares-le g c l t e h = let k = changes-le g t c in rw (e, shares-at g c t h)
     (by-bool (any (λ i. isBegin (recordAt g i) t) c) (λ f. rw f (omega arith)) (λ f. rw f (omega arith)))
 
@@ -103,7 +103,7 @@ begun-left : (b : Bool) (l : List ℕ) → reserveBy (if b (1 + length l) 0) ≡
 begun-left true l = rw (ne-eqb (1 + length l) 0 (λ e. omega arith))
 begun-left false l = refl
 
-module _ (w g : List ℕ) (c : ℕ) (l : List ℕ) (t : ℕ) (e : l ≡ sharesIn g c) (h : t < 16) where
+module _ (w g : List ℕ) (c : ℕ) (l : List ℕ) (t : ℕ) (e : l ≡ sharesIn g c) (h : t < txnCount) where
   pub share-left : reserveBy (getD l t 0) ≡ 1 + length (changesLeft w g c t)
   unfolding changesLeft
   share-left =

@@ -9,6 +9,8 @@ ghost use Rattle.records.specs.Soundness.{recordSound, recordsSound};
 ghost use Rattle.records.specs.Order.{openIn};
 ghost use Rattle.records.specs.Recovery.{redone, undoneIn, recovered};
 ghost use Rattle.pages.specs.Soundness.{freeZero};
+ghost use Rattle.areas.specs.Areas.{countWords};
+ghost use Rattle.areas.specs.Layout.{reopeningAt, running};
 ghost use Rattle.recovering.specs.Rebuilding.{leaving, takenBack};
 use areas::layout;
 use page_ops::bits;
@@ -75,8 +77,8 @@ pub fn recover(stored: &[u32], a: &mut [u32], log: &[u32], n: usize, c: usize, m
 
 // The received count becomes the stable count, and the working tables clear but for a running reopening.
 pub fn restart(counts: &mut [u32], work: &mut [u32])
-    requires { ⌜ (length (now counts) ≡ 2) × (1 ≤ length (now work)) ⌝ }
-    ensures { λ _. ⌜ (now (counts .exit) ≡ set (now (counts .entry)) 0 (getD (now (counts .entry)) 1 0)) × (now (work .exit) ≡ set (replicate (length (now (work .entry))) 0) 0 1) ⌝ }
+    requires { ⌜ (length (now counts) ≡ countWords) × (1 ≤ length (now work)) ⌝ }
+    ensures { λ _. ⌜ (now (counts .exit) ≡ set (now (counts .entry)) 0 (getD (now (counts .entry)) 1 0)) × (now (work .exit) ≡ set (replicate (length (now (work .entry))) 0) reopeningAt running) ⌝ }
 {
     counts[layout::RECEIVED] = counts[layout::STABLE];
     page_ops::areas::clear(work);

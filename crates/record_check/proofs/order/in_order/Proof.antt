@@ -7,12 +7,6 @@ use Rattle.record_laws.specs.RecordLaws.{or-f}
 use Rattle.record_check.proofs.order.in_order.Statement.{statement}
 use Rattle.record_check.proofs.order.in_order.Tie as tie
 
-cast-has-bit : tie.Need-cast-has-bit
-cast-has-bit c = search needs
-
-has-bit-requires : tie.Need-has-bit-requires
-has-bit-requires c κs = search needs
-
 returns : tie.Need-returns
 returns c = sym (or-l _ _ (eq-eqb _ _ (c .if1 .taken)))
 
@@ -23,4 +17,4 @@ returns-3 : tie.Need-returns-3
 returns-3 c = c .before .before .before .before .has-bit .ensures ∙ sym (or-f _ _ (ne-eqb _ _ (c .before .before .if1 .left)) ∙ if-f _ _ _ (ne-eqb _ _ (c .if2 .left)))
 
 pub in-order-spec : {M : Type 1} → statement M
-in-order-spec = tie.close (tie.spec cast-has-bit has-bit-requires returns returns-2 returns-3)
+in-order-spec = tie.close (tie.spec (λ c. search needs) (λ c κs. search needs) returns returns-2 returns-3)

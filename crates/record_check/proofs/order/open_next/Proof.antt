@@ -5,20 +5,8 @@ use Rattle.words.specs.Tests.{if-t, if-f}
 use Rattle.record_check.proofs.order.open_next.Statement.{statement}
 use Rattle.record_check.proofs.order.open_next.Tie as tie
 
-cast-with-bit : tie.Need-cast-with-bit
-cast-with-bit c = search needs
-
-with-bit-requires : tie.Need-with-bit-requires
-with-bit-requires c κs = search needs
-
 returns : tie.Need-returns
 returns c = c .with-bit .ensures ∙ sym (if-t _ _ _ (eq-eqb _ _ (c .before .before .if1 .taken)))
-
-cast-without-bit : tie.Need-cast-without-bit
-cast-without-bit c = search needs
-
-without-bit-requires : tie.Need-without-bit-requires
-without-bit-requires c κs = search needs
 
 returns-2 : tie.Need-returns-2
 returns-2 c = c .without-bit .ensures ∙ sym (if-f _ _ _ (ne-eqb _ _ (c .before .before .before .before .before .if1 .left)) ∙ if-t _ _ _ (c .before .before .if2 .taken))
@@ -30,10 +18,10 @@ pub open-next-spec : {M : Type 1} → statement M
 open-next-spec =
     tie.close
     (tie.spec
-    cast-with-bit
-    with-bit-requires
+    (λ c. search needs)
+    (λ c κs. search needs)
     returns
-    cast-without-bit
-    without-bit-requires
+    (λ c. search needs)
+    (λ c κs. search needs)
     returns-2
     returns-3)

@@ -4,12 +4,6 @@ use borrow.Author.Needs.{needs}
 use Rattle.record_check.proofs.ranges.outside.Statement.{statement}
 use Rattle.record_check.proofs.ranges.outside.Tie as tie
 
-wrapping-sub-u32-requires : tie.Need-wrapping-sub-u32-requires
-wrapping-sub-u32-requires c κs = search needs
-
-above-requires : tie.Need-above-requires
-above-requires c κs = search needs
-
 returns : tie.Need-returns
 returns c =
     let s = c .before .before .args in
@@ -17,4 +11,4 @@ returns c =
     (omega arith) (omega arith) (omega arith) (c .before .wrapping-sub-u32 .ensures) (c .above .ensures)
 
 pub outside-spec : {M : Type 1} → statement M
-outside-spec = tie.close (tie.spec wrapping-sub-u32-requires above-requires returns)
+outside-spec = tie.close (tie.spec (λ c κs. search needs) (λ c κs. search needs) returns)

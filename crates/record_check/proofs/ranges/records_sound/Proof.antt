@@ -13,125 +13,11 @@ Inv-loop log n c low span barred f0₀ f1₀ f2₀ f3₀ f4₀ kinds₀ i₀ f0 
 abbrev μ-loop : tie.MeasureT-loop
 μ-loop log n c low span barred f0₀ f1₀ f2₀ f3₀ f4₀ kinds₀ i₀ f0 f1 f2 f3 f4 kinds i = c - i
 
-lows-requires : tie.Need-lows-requires Inv-loop μ-loop
-lows-requires c κs = search needs
-
-cast-spans : tie.Need-cast-spans Inv-loop μ-loop
-cast-spans c = search needs
-
-spans-requires : tie.Need-spans-requires Inv-loop μ-loop
-spans-requires c κs = search needs
-
-barred-bits-requires : tie.Need-barred-bits-requires Inv-loop μ-loop
-barred-bits-requires c κs = search needs
-
 loop-holds : tie.Need-loop-holds Inv-loop μ-loop
 loop-holds c = (omega arith, clean-none _ _)
 
-record-at-requires : tie.Need-record-at-requires Inv-loop μ-loop
-record-at-requires c κs = search needs
-
-row-of-requires : tie.Need-row-of-requires Inv-loop μ-loop
-row-of-requires c κs = search needs
-
-mul-outside : tie.Need-mul-outside Inv-loop μ-loop
-mul-outside c = search needs
-
-index-1-outside : tie.Need-index-1-outside Inv-loop μ-loop
-index-1-outside c = search needs
-
-index-2-outside : tie.Need-index-2-outside Inv-loop μ-loop
-index-2-outside c = search needs
-
-mul-outside-2 : tie.Need-mul-outside-2 Inv-loop μ-loop
-mul-outside-2 c = search needs
-
-index-1-outside-2 : tie.Need-index-1-outside-2 Inv-loop μ-loop
-index-1-outside-2 c = search needs
-
-index-2-outside-2 : tie.Need-index-2-outside-2 Inv-loop μ-loop
-index-2-outside-2 c = search needs
-
-outside-requires : tie.Need-outside-requires Inv-loop μ-loop
-outside-requires c κs = search needs
-
-mul-outside-3 : tie.Need-mul-outside-3 Inv-loop μ-loop
-mul-outside-3 c = search needs
-
-index-1-outside-3 : tie.Need-index-1-outside-3 Inv-loop μ-loop
-index-1-outside-3 c = search needs
-
-index-2-outside-3 : tie.Need-index-2-outside-3 Inv-loop μ-loop
-index-2-outside-3 c = search needs
-
-mul-outside-4 : tie.Need-mul-outside-4 Inv-loop μ-loop
-mul-outside-4 c = search needs
-
-index-1-outside-4 : tie.Need-index-1-outside-4 Inv-loop μ-loop
-index-1-outside-4 c = search needs
-
-index-2-outside-4 : tie.Need-index-2-outside-4 Inv-loop μ-loop
-index-2-outside-4 c = search needs
-
-outside-requires-2 : tie.Need-outside-requires-2 Inv-loop μ-loop
-outside-requires-2 c κs = search needs
-
-mul-outside-5 : tie.Need-mul-outside-5 Inv-loop μ-loop
-mul-outside-5 c = search needs
-
-index-1-outside-5 : tie.Need-index-1-outside-5 Inv-loop μ-loop
-index-1-outside-5 c = search needs
-
-index-2-outside-5 : tie.Need-index-2-outside-5 Inv-loop μ-loop
-index-2-outside-5 c = search needs
-
-mul-outside-6 : tie.Need-mul-outside-6 Inv-loop μ-loop
-mul-outside-6 c = search needs
-
-index-1-outside-6 : tie.Need-index-1-outside-6 Inv-loop μ-loop
-index-1-outside-6 c = search needs
-
-index-2-outside-6 : tie.Need-index-2-outside-6 Inv-loop μ-loop
-index-2-outside-6 c = search needs
-
-outside-requires-3 : tie.Need-outside-requires-3 Inv-loop μ-loop
-outside-requires-3 c κs = search needs
-
-mul-outside-7 : tie.Need-mul-outside-7 Inv-loop μ-loop
-mul-outside-7 c = search needs
-
-index-1-outside-7 : tie.Need-index-1-outside-7 Inv-loop μ-loop
-index-1-outside-7 c = search needs
-
-index-2-outside-7 : tie.Need-index-2-outside-7 Inv-loop μ-loop
-index-2-outside-7 c = search needs
-
-mul-outside-8 : tie.Need-mul-outside-8 Inv-loop μ-loop
-mul-outside-8 c = search needs
-
-index-1-outside-8 : tie.Need-index-1-outside-8 Inv-loop μ-loop
-index-1-outside-8 c = search needs
-
-index-2-outside-8 : tie.Need-index-2-outside-8 Inv-loop μ-loop
-index-2-outside-8 c = search needs
-
-outside-requires-4 : tie.Need-outside-requires-4 Inv-loop μ-loop
-outside-requires-4 c κs = search needs
-
-mul-strays : tie.Need-mul-strays Inv-loop μ-loop
-mul-strays c = search needs
-
-array-read-strays : tie.Need-array-read-strays Inv-loop μ-loop
-array-read-strays c = search needs
-
-strays-requires : tie.Need-strays-requires Inv-loop μ-loop
-strays-requires c κs = search needs
-
 add-i : tie.Need-add-i Inv-loop μ-loop
 add-i c = omega (arith, c .before .before .before .before .before .before .before .before .before .before .before .before .before .before .before .before .loop-test .taken, c .before .before .before .before .before .before .before .before .before .before .before .before .before .before .before .before .before .before .before .before .before .before .fits)
-
-loop-less : tie.Need-loop-less Inv-loop μ-loop
-loop-less c = search needs
 
 loop-again : tie.Need-loop-again Inv-loop μ-loop
 loop-again c =
@@ -153,45 +39,45 @@ records-sound-spec =
     (tie.spec
     Inv-loop
     μ-loop
-    lows-requires
-    cast-spans
-    spans-requires
-    barred-bits-requires
+    (λ c κs. search needs)
+    (λ c. search needs)
+    (λ c κs. search needs)
+    (λ c κs. search needs)
     loop-holds
-    record-at-requires
-    row-of-requires
-    mul-outside
-    index-1-outside
-    index-2-outside
-    mul-outside-2
-    index-1-outside-2
-    index-2-outside-2
-    outside-requires
-    mul-outside-3
-    index-1-outside-3
-    index-2-outside-3
-    mul-outside-4
-    index-1-outside-4
-    index-2-outside-4
-    outside-requires-2
-    mul-outside-5
-    index-1-outside-5
-    index-2-outside-5
-    mul-outside-6
-    index-1-outside-6
-    index-2-outside-6
-    outside-requires-3
-    mul-outside-7
-    index-1-outside-7
-    index-2-outside-7
-    mul-outside-8
-    index-1-outside-8
-    index-2-outside-8
-    outside-requires-4
-    mul-strays
-    array-read-strays
-    strays-requires
+    (λ c κs. search needs)
+    (λ c κs. search needs)
+    (λ c. search needs)
+    (λ c. search needs)
+    (λ c. search needs)
+    (λ c. search needs)
+    (λ c. search needs)
+    (λ c. search needs)
+    (λ c κs. search needs)
+    (λ c. search needs)
+    (λ c. search needs)
+    (λ c. search needs)
+    (λ c. search needs)
+    (λ c. search needs)
+    (λ c. search needs)
+    (λ c κs. search needs)
+    (λ c. search needs)
+    (λ c. search needs)
+    (λ c. search needs)
+    (λ c. search needs)
+    (λ c. search needs)
+    (λ c. search needs)
+    (λ c κs. search needs)
+    (λ c. search needs)
+    (λ c. search needs)
+    (λ c. search needs)
+    (λ c. search needs)
+    (λ c. search needs)
+    (λ c. search needs)
+    (λ c κs. search needs)
+    (λ c. search needs)
+    (λ c. search needs)
+    (λ c κs. search needs)
     add-i
-    loop-less
+    (λ c. search needs)
     loop-again
     returns)

@@ -3,11 +3,8 @@ use borrow.Author.Needs.{needs}
 use Rattle.record_check.proofs.ranges.strays.Statement.{statement}
 use Rattle.record_check.proofs.ranges.strays.Tie as tie
 
-cast-result : tie.Need-cast-result
-cast-result c = search needs
-
 returns : tie.Need-returns
 returns c = let s = c .before .before .before .args in strays-none (s .before) (s .barred) (s .r)
 
 pub strays-spec : {M : Type 1} → statement M
-strays-spec = tie.close (tie.spec cast-result returns)
+strays-spec = tie.close (tie.spec (λ c. search needs) returns)

@@ -5,17 +5,8 @@ use Rattle.words.specs.Tests.{if-t, if-f}
 use Rattle.record_check.proofs.sound.object_sound.Statement.{statement}
 use Rattle.record_check.proofs.sound.object_sound.Tie as tie
 
-cast-there : tie.Need-cast-there
-cast-there c = search needs
-
-mul-there : tie.Need-mul-there
-mul-there c = search needs
-
 returns : tie.Need-returns
 returns c = sym (if-t _ _ _ (c .before .before .before .before .if1 .taken))
-
-cast-result : tie.Need-cast-result
-cast-result c = search needs
 
 returns-2 : tie.Need-returns-2
 returns-2 c = sym (if-f _ _ _ (c .before .before .before .if1 .left) ∙ if-t _ _ _ (eq-eqb _ _ (c .before .if2 .taken)))
@@ -25,4 +16,4 @@ returns-3 c = sym (if-f _ _ _ (c .before .before .before .if1 .left) ∙ if-f _ 
 
 pub object-sound-spec : {M : Type 1} → statement M
 object-sound-spec =
-    tie.close (tie.spec cast-there mul-there returns cast-result returns-2 returns-3)
+    tie.close (tie.spec (λ c. search needs) (λ c. search needs) returns (λ c. search needs) returns-2 returns-3)

@@ -5,24 +5,6 @@ use Rattle.record_laws.specs.RecordLaws.{word-sound-new}
 use Rattle.record_check.proofs.sound.word_sound.Statement.{statement}
 use Rattle.record_check.proofs.sound.word_sound.Tie as tie
 
-kind-sound-requires : tie.Need-kind-sound-requires
-kind-sound-requires c κs = search needs
-
-txn-sound-requires : tie.Need-txn-sound-requires
-txn-sound-requires c κs = search needs
-
-object-sound-requires : tie.Need-object-sound-requires
-object-sound-requires c κs = search needs
-
-field-sound-requires : tie.Need-field-sound-requires
-field-sound-requires c κs = search needs
-
-old-sound-requires : tie.Need-old-sound-requires
-old-sound-requires c κs = search needs
-
-new-sound-requires : tie.Need-new-sound-requires
-new-sound-requires c κs = search needs
-
 returns : tie.Need-returns
 unfolding wordSound
 returns c = c .kind-sound .ensures ∙ rw (c .before .match .keys1)
@@ -50,12 +32,12 @@ pub word-sound-spec : {M : Type 1} → statement M
 word-sound-spec =
     tie.close
     (tie.spec
-    kind-sound-requires
-    txn-sound-requires
-    object-sound-requires
-    field-sound-requires
-    old-sound-requires
-    new-sound-requires
+    (λ c κs. search needs)
+    (λ c κs. search needs)
+    (λ c κs. search needs)
+    (λ c κs. search needs)
+    (λ c κs. search needs)
+    (λ c κs. search needs)
     returns
     returns-2
     returns-3

@@ -15,22 +15,13 @@ write-word-requires c κs = let h = c .before .before .before .pre .write (c .be
 occupy-requires : tie.Need-occupy-requires
 occupy-requires c κs = let h = c .before .before .before .pre .uncreate (c .before .match .keys3) in omega arith
 
-same-length : tie.Need-same-length
-same-length c = search needs
-
 returns : tie.Need-returns
 unfolding undone
 returns c = c .before .before .release .ensures ∙ rw (c .before .before .before .before .match .keys1)
 
-same-length-2 : tie.Need-same-length-2
-same-length-2 c = search needs
-
 returns-2 : tie.Need-returns-2
 unfolding undone
 returns-2 c = c .before .before .write-word .ensures ∙ rw (c .before .before .before .before .match .keys2)
-
-same-length-3 : tie.Need-same-length-3
-same-length-3 c = search needs
 
 returns-3 : tie.Need-returns-3
 unfolding undone
@@ -46,10 +37,10 @@ take-back-spec =
     release-requires
     write-word-requires
     occupy-requires
-    same-length
+    (λ c. search needs)
     returns
-    same-length-2
+    (λ c. search needs)
     returns-2
-    same-length-3
+    (λ c. search needs)
     returns-3
     returns-4)
