@@ -1,12 +1,9 @@
-// What is sound in log records: each of a record's six words by itself, the words of all records by ranges, and whether a record may
-// come where it stands.
+// What is sound in a log record: each of its six words by itself, and whether it may come where it stands.
 mod order;
-mod ranges;
 mod sound;
 
 pub use order::in_order;
 pub use order::open_next;
-pub use ranges::records_sound;
 pub use sound::word_sound;
 
 // The widths of a page, as words of a record are compared with them, and where the root is.

@@ -3,9 +3,9 @@ use native.Mathlib.Omega.{arith}
 use Prim.Native.Nat.{_≤_, _-_}
 use mathlib.Core.Path.{_≡_}
 use Rattle.records.specs.Soundness.{recordsSound}
-use Rattle.record_check.specs.Ranges.{clean, clean-none, clean-next, clean-end, rows-sound, Words}
-use Rattle.record_check.proofs.ranges.records_sound.Statement.{statement}
-use Rattle.record_check.proofs.ranges.records_sound.Tie as tie
+use Rattle.record_ranges.specs.Ranges.{clean, clean-none, clean-next, clean-end, rows-sound, Words}
+use Rattle.record_ranges.proofs.records_sound.Statement.{statement}
+use Rattle.record_ranges.proofs.records_sound.Tie as tie
 
 abbrev Inv-loop : tie.InvT-loop
 Inv-loop log n c low span barred f0₀ f1₀ f2₀ f3₀ f4₀ kinds₀ i₀ f0 f1 f2 f3 f4 kinds i = (i ≤ c) × (clean kinds f0 f1 f2 f3 f4 ≡ recordsSound n log i)

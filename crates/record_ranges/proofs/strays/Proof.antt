@@ -1,7 +1,7 @@
-use Rattle.record_check.specs.Ranges.{strays-none}
+use Rattle.record_ranges.specs.Ranges.{strays-none}
 use borrow.Author.Needs.{needs}
-use Rattle.record_check.proofs.ranges.strays.Statement.{statement}
-use Rattle.record_check.proofs.ranges.strays.Tie as tie
+use Rattle.record_ranges.proofs.strays.Statement.{statement}
+use Rattle.record_ranges.proofs.strays.Tie as tie
 
 returns : tie.Need-returns
 returns c = let s = c .before .before .before .args in strays-none (s .before) (s .barred) (s .r)

@@ -8,13 +8,18 @@ ghost use lib.Dec.{eqb};
 ghost use Rattle.pages.specs.Geometry.{maxPages};
 ghost use Rattle.records.specs.Records.{recordWords};
 ghost use Rattle.records.specs.Soundness.{recordsSound};
-ghost use Rattle.record_check.specs.Ranges as spec;
-use crate::REF_WORDS;
-use crate::ROOT_PAGE;
-use crate::SLOT_WORDS;
-use crate::SLOTS;
+ghost use Rattle.record_ranges.specs.Ranges as spec;
 use page_ops::bits;
 use records::Record;
+
+// The widths of a page, as words of a record are compared with them, and the page of the root.
+const SLOTS: u32 = pages::SLOTS as u32;
+
+const SLOT_WORDS: u32 = pages::SLOT_WORDS as u32;
+
+const REF_WORDS: u32 = pages::REF_WORDS as u32;
+
+const ROOT_PAGE: u32 = (pages::ROOT - 1) / SLOTS;
 
 // A row for each kind and for none, KINDS in all; then the same for the field of a data word.
 const KINDS: u32 = records::SWEEP + 1;

@@ -1,8 +1,8 @@
 use native.Mathlib.Omega.{arith}
-use Rattle.record_check.specs.Ranges.{outside-none}
+use Rattle.record_ranges.specs.Ranges.{outside-none}
 use borrow.Author.Needs.{needs}
-use Rattle.record_check.proofs.ranges.outside.Statement.{statement}
-use Rattle.record_check.proofs.ranges.outside.Tie as tie
+use Rattle.record_ranges.proofs.outside.Statement.{statement}
+use Rattle.record_ranges.proofs.outside.Tie as tie
 
 returns : tie.Need-returns
 returns c =
