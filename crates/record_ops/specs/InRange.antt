@@ -15,7 +15,8 @@ use Rattle.record_laws.specs.RecordLaws.{sound-record}
 abbrev pub Within : List ℕ → ℕ → Type 0
 Within a o = (1 ≤ o) × (pageAt (pageOf o) + pageWords ≤ length a)
 
--- a record whose object or page and field lie inside area a, its map a map of slots; it may free the root, which a sound one does not
+-- not 'a record's .. object, page or field out of range', nor 'a map above 65535', for area a. Less than soundness: such a record may
+-- be 'a record that creates or frees the root', and has its effect all the same
 pub record InRange (a : List ℕ) (r : Record) : Type 0 where
   pub create : r .kind ≡ 2 → Within a (r .object)
   pub write : r .kind ≡ 3 → Within a (r .object) × (r .field < slotWords)

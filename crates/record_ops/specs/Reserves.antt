@@ -16,7 +16,8 @@ use Rattle.records.specs.declared.Record.{Record}
 use Rattle.records.specs.Records.{txnCount, recordAt, isBegin, isChange}
 use Rattle.records.specs.Changes.{changesIn, changesLeft, reserveOf}
 
--- what one more record of kind k makes of its transaction's share: 0 where it has not begun, else 1 and its creates and sets since
+-- 'each active transaction reserves 1 record plus 1 for each of its creates and sets. Its records are those after its last begin':
+-- what one more record of kind k makes of its transaction's share, 0 where it has not begun, else 1 and its creates and sets since
 abbrev pub shareNext : ℕ → ℕ → ℕ
 shareNext k x = if (eqb k 1) 1 (if (eqb k 2 || eqb k 3) (if (eqb x 0) 0 (x + 1)) x)
 
@@ -95,7 +96,7 @@ pub shares-le : (g : List ℕ) (c : ℕ) (l : List ℕ) (t : ℕ) → l ≡ shar
 shares-le g c l t e h = let k = changes-le g t c in rw (e, shares-at g c t h)
     (by-bool (any (λ i. isBegin (recordAt g i) t) c) (λ f. rw f (omega arith)) (λ f. rw f (omega arith)))
 
--- what a transaction reserves, and its changes left, by its share x
+-- what an active transaction reserves by its share x: 'without one it has none', and reserves the 1 record alone
 abbrev pub reserveBy : ℕ → ℕ
 reserveBy x = if (eqb x 0) 1 x
 

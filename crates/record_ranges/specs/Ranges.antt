@@ -40,7 +40,8 @@ sixteen a b c d e f g h i j k l m n o p = a ∷ b ∷ c ∷ d ∷ e ∷ f ∷ g 
 abbrev pub rowOf : Record → ℕ
 rowOf r = r .kind % kindRows + kindRows * (r .field / refWords % 2)
 
--- by row, the least values of the object, the field, the old and the new word
+-- 'a record's transaction, object, page or field out of range; an unused word not 0': by row, the least values of the object, the
+-- field, the old and the new word
 abbrev pub lows : List (List ℕ)
 lows =
     let none = four 0 refWords 0 0 in let end = four 0 0 0 0 in let make = four (root + 1) 0 0 0 in let set = four root 0 0 0 in
@@ -61,7 +62,7 @@ barred = let t = ones - (txnCount - 1) in sixteen t t t t t t t ones t t t t t t
 abbrev pub inside : ℕ → ℕ → ℕ → Bool
 inside x low span = leb (if (leb low x) (x - low) (x + (wordSize - low))) span
 
--- a transaction without the bits that it must not have, and no first slot of page 0
+-- a transaction without the bits that it must not have, and not 'a record that .. frees the root', the first slot of page 0
 abbrev pub strayless : Record → ℕ → Bool
 strayless r bits = eqb (bitAnd (r .txn) bits) 0 && not (eqb (r .object) 0 && bit (r .new) 0)
 

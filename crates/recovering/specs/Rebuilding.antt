@@ -26,11 +26,11 @@ without-none : (t : ℕ) → withoutBit 0 t ≡ 0
 unfolding withoutBit
 without-none t = rw (bit-none t)
 
--- the mask without the transaction that a record begins
+-- 'undone back to that begin': the mask without the transaction that a record begins
 abbrev pub leaving : ℕ → Record → ℕ
 leaving m r = if (eqb (r .kind) 1) (withoutBit m (r .txn)) m
 
--- a record undone if it is of a transaction of m
+-- 'Transactions without kind 4 or 5 after their last begin are undone': a record is, if it is of one of them, those of mask m
 abbrev pub takenBack : ℕ → List ℕ → Record → List ℕ
 takenBack m a r = if (bit m (r .txn)) (undone a r) a
 
