@@ -99,7 +99,7 @@ fn in_range(
     if !page_check::sound::area_sound(copies, n) {
         return false;
     }
-    record_ops::records_sound(log, n, counts[layout::RECEIVED] as usize)
+    record_ranges::records_sound(log, n, counts[layout::RECEIVED] as usize)
 }
 
 // Refusal 1, without its number. own: the lengths of the call's own buffers are right.

@@ -2,7 +2,7 @@
 ghost use mathlib.Core.Path.{_≡_};
 ghost use Prim.Native.Nat.{_+_, _*_, _≤_};
 ghost use lib.ListN.{length};
-ghost use Rattle.records.specs.Records.{recordAt};
+ghost use Rattle.records.specs.Records.{recordWords, recordAt};
 use records::Record;
 
 // A log, and the number of the record to read.
@@ -13,16 +13,16 @@ pub struct Reader<'a> {
 
 // The words of record i.
 fn words_at(log: &[u32], i: usize) -> Record
-    requires { ⌜ 6 * i + 6 ≤ length (now log) ⌝ }
+    requires { ⌜ recordWords * i + recordWords ≤ length (now log) ⌝ }
     ensures { λ r. ⌜ r ≡ recordAt (now (log .entry)) i ⌝ }
 {
     Record {
-        kind: log[6 * i],
-        txn: log[6 * i + 1],
-        object: log[6 * i + 2],
-        field: log[6 * i + 3],
-        old: log[6 * i + 4],
-        new: log[6 * i + 5],
+        kind: log[records::RECORD_WORDS * i],
+        txn: log[records::RECORD_WORDS * i + 1],
+        object: log[records::RECORD_WORDS * i + 2],
+        field: log[records::RECORD_WORDS * i + 3],
+        old: log[records::RECORD_WORDS * i + 4],
+        new: log[records::RECORD_WORDS * i + 5],
     }
 }
 
@@ -35,7 +35,7 @@ fn start<'a>(log: &'a [u32], at: usize) -> Reader<'a>
 
 // The record that a reader stands at. (Proved by hand.)
 fn read<'a>(r: Reader<'a>) -> Record
-    requires { ⌜ 6 * (r .at) + 6 ≤ length (now (r .log)) ⌝ }
+    requires { ⌜ recordWords * (r .at) + recordWords ≤ length (now (r .log)) ⌝ }
     ensures { λ x. ⌜ x ≡ recordAt (now (r .entry .log)) (r .entry .at) ⌝ }
 {
     words_at(r.log, r.at)
@@ -43,7 +43,7 @@ fn read<'a>(r: Reader<'a>) -> Record
 
 // Record i of a log, through a reader. (Proved by hand; whoever calls it is covered.)
 pub fn record_at(log: &[u32], i: usize) -> Record
-    requires { ⌜ 6 * i + 6 ≤ length (now log) ⌝ }
+    requires { ⌜ recordWords * i + recordWords ≤ length (now log) ⌝ }
     ensures { λ r. ⌜ r ≡ recordAt (now (log .entry)) i ⌝ }
 {
     read(start(log, i))

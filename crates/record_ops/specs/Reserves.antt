@@ -13,17 +13,18 @@ use borrow.Author.Tests.{eq-eqb, ne-eqb}
 use Rattle.words.specs.Tests.{if, any, sum, by-bool, if-t, if-f, sum-next}
 use Rattle.words.specs.Bits.{bit}
 use Rattle.records.specs.declared.Record.{Record}
-use Rattle.records.specs.Records.{recordAt, isBegin}
+use Rattle.records.specs.Records.{txnCount, recordAt, isBegin}
 use Rattle.records.specs.Changes.{changesIn, changesLeft, reserveOf}
 use Rattle.record_laws.specs.RecordLaws.{changes-le}
 
--- what one more record of kind k makes of its transaction's share: 0 where it has not begun, else 1 and its creates and sets since
+-- 'each active transaction reserves 1 record plus 1 for each of its creates and sets. Its records are those after its last begin':
+-- what one more record of kind k makes of its transaction's share, 0 where it has not begun, else 1 and its creates and sets since
 abbrev pub shareNext : ℕ → ℕ → ℕ
 shareNext k x = if (eqb k 1) 1 (if (eqb k 2 || eqb k 3) (if (eqb x 0) 0 (x + 1)) x)
 
 -- by transaction, its share of the first c records
 unfoldable pub sharesIn : List ℕ → ℕ → List ℕ
-sharesIn g zero = replicate 16 0
+sharesIn g zero = replicate txnCount 0
 sharesIn g (suc i) = let l = sharesIn g i in let r = recordAt g i in set l (r .txn) (shareNext (r .kind) (getD l (r .txn) 0))
 
 -- laws
@@ -37,7 +38,7 @@ shares-next g i l x r read e f =
     ∙ ap (λ (m : List ℕ). set m (recordAt g i .txn) (shareNext (recordAt g i .kind) (getD m (recordAt g i .txn) 0))) e
     ∙ ap (sharesIn g) (sym (add-one i))
 
-pub length-shares : (g : List ℕ) (c : ℕ) → length (sharesIn g c) ≡ 16
+pub length-shares : (g : List ℕ) (c : ℕ) → length (sharesIn g c) ≡ txnCount
 unfolding sharesIn
 length-shares g zero = refl
 length-shares g (suc i) = length-set (sharesIn g i) _ _ ∙ length-shares g i
@@ -68,9 +69,9 @@ unfolding any changesIn
 share-next g i t = let r = recordAt g i in
     share-step (any (λ j. isBegin (recordAt g j) t) i) (eqb (r .txn) t) (eqb (r .kind) 1) (eqb (r .kind) 2 || eqb (r .kind) 3) i (changesIn g t i)
 
-pub shares-at : (g : List ℕ) (c t : ℕ) → t < 16 → getD (sharesIn g c) t 0 ≡ shareOf g c t
+pub shares-at : (g : List ℕ) (c t : ℕ) → t < txnCount → getD (sharesIn g c) t 0 ≡ shareOf g c t
 unfolding sharesIn any
-shares-at g zero t h = getD-replicate 16 t 0 0 h
+shares-at g zero t h = getD-replicate txnCount t 0 0 h
 shares-at g (suc i) t h =
     let k = recordAt g i .kind in
     let p = recordAt g i .txn in
@@ -84,11 +85,11 @@ shares-at g (suc i) t h =
       | no q ↦ (getD-set-other l p t v 0 q ∙ shares-at g i t h ∙ sym (share-next g i t ∙ if-f _ _ _ (ne-eqb p t (λ e. q (sym e)))))
     ]
 
-pub shares-le : (g : List ℕ) (c : ℕ) (l : List ℕ) (t : ℕ) → l ≡ sharesIn g c → t < 16 → getD l t 0 ≤ c + 1
+pub shares-le : (g : List ℕ) (c : ℕ) (l : List ℕ) (t : ℕ) → l ≡ sharesIn g c → t < txnCount → getD l t 0 ≤ c + 1
 shares-le g c l t e h = let k = changes-le g t c in rw (e, shares-at g c t h)
     (by-bool (any (λ i. isBegin (recordAt g i) t) c) (λ f. rw f (omega arith)) (λ f. rw f (omega arith)))
 
--- what a transaction reserves, and its changes left, by its share x
+-- what an active transaction reserves by its share x: 'without one it has none', and reserves the 1 record alone
 abbrev pub reserveBy : ℕ → ℕ
 reserveBy x = if (eqb x 0) 1 x
 
@@ -96,7 +97,7 @@ begun-left : (b : Bool) (l : List ℕ) → reserveBy (if b (1 + length l) 0) ≡
 begun-left true l = rw (ne-eqb (1 + length l) 0 (λ e. omega arith))
 begun-left false l = refl
 
-module _ (w g : List ℕ) (c : ℕ) (l : List ℕ) (t : ℕ) (e : l ≡ sharesIn g c) (h : t < 16) where
+module _ (w g : List ℕ) (c : ℕ) (l : List ℕ) (t : ℕ) (e : l ≡ sharesIn g c) (h : t < txnCount) where
   pub share-left : reserveBy (getD l t 0) ≡ 1 + length (changesLeft w g c t)
   unfolding changesLeft
   share-left =

@@ -1,17 +1,22 @@
 ghost use mathlib.Core.Path.{_≡_};
 ghost use mathlib.Core.Bool.{true, false};
-ghost use Prim.Native.Nat.{_*_, _<_, _≤_};
+ghost use Prim.Native.Nat.{_*_, _≤_};
 ghost use lib.ListN.{length};
-ghost use Rattle.records.specs.Records.{isSweep};
+ghost use Rattle.pages.specs.Geometry.{maxPages};
+ghost use Rattle.records.specs.Records.{recordWords, maxRecords, isSweep};
 ghost use Rattle.records.specs.Soundness.{recordsSound};
 ghost use Rattle.records.specs.Naming.{namesPage, pageNamed, lastNaming};
+use pages::MAX_PAGES;
 use records::Record;
 
 // Whether a record names a page.
 pub fn names_page(r: Record) -> bool
     ensures { λ b. ⌜ b ≡ namesPage r ⌝ }
 {
-    (r.kind == 2) | (r.kind == 3) | (r.kind == 6) | (r.kind == 7)
+    (r.kind == records::CREATE)
+        | (r.kind == records::SET)
+        | (r.kind == records::UNCREATE)
+        | (r.kind == records::SWEEP)
 }
 
 // The page that a record names.
@@ -19,18 +24,18 @@ pub fn page_named(r: Record) -> usize
     requires { ⌜ (isSweep r ≡ false → 1 ≤ r .object) ⌝ }
     ensures { λ p. ⌜ p ≡ pageNamed r ⌝ }
 {
-    if r.kind == 7 {
+    if r.kind == records::SWEEP {
         return r.object as usize;
     }
-    (r.object as usize - 1) / 16
+    (r.object as usize - 1) / pages::SLOTS
 }
 
 // By page, the number, from 1, of the last of the first c records that names it.
-pub fn last_naming(log: &[u32], c: usize) -> [u32; 256]
-    requires { ⌜ (6 * c ≤ length (now log)) × (c ≤ 4096) × (recordsSound 256 (now log) c ≡ true) ⌝ }
+pub fn last_naming(log: &[u32], c: usize) -> [u32; MAX_PAGES]
+    requires { ⌜ (recordWords * c ≤ length (now log)) × (c ≤ maxRecords) × (recordsSound maxPages (now log) c ≡ true) ⌝ }
     ensures { λ l. ⌜ l ≡ lastNaming (now (log .entry)) c ⌝ }
 {
-    let mut last = [0u32; 256];
+    let mut last = [0u32; MAX_PAGES];
     for i in 0..c {
         let r = log_reader::record_at(log, i);
         if names_page(r) {

@@ -8,6 +8,7 @@ use lib.Dec.{eqb}
 use native.Mathlib.Omega.{arith}
 use Rattle.words.specs.Tests.{if}
 use Rattle.words.specs.Bits.{bit, withoutBit, bit-none}
+use Rattle.pages.specs.Geometry.{pageWords}
 use Rattle.records.specs.declared.Record.{Record}
 use Rattle.records.specs.Records.{recordAt}
 use Rattle.records.specs.Soundness.{recordSound, recordsSound}
@@ -25,11 +26,11 @@ without-none : (t : ℕ) → withoutBit 0 t ≡ 0
 unfolding withoutBit
 without-none t = rw (bit-none t)
 
--- the mask without the transaction that a record begins
+-- 'undone back to that begin': the mask without the transaction that a record begins
 abbrev pub leaving : ℕ → Record → ℕ
 leaving m r = if (eqb (r .kind) 1) (withoutBit m (r .txn)) m
 
--- a record undone if it is of a transaction of m
+-- 'Transactions without kind 4 or 5 after their last begin are undone': a record is, if it is of one of them, those of mask m
 abbrev pub takenBack : ℕ → List ℕ → Record → List ℕ
 takenBack m a r = if (bit m (r .txn)) (undone a r) a
 
@@ -68,19 +69,19 @@ undone-none g m (suc i) a e = let r = recordAt g i in
     undone-none g (leaving m r) i a kept ∙ ap (undoneIn g (leaving m r) i) (sym same)
 
 -- a record of the log, for an area as long as the one that the log is sound for
-pub sound-here : (a x g : List ℕ) (c i : ℕ) (r : Record) → length x ≡ length a → r ≡ recordAt g i → recordsSound (length a / 129) g c ≡ true → i < c
-    → recordSound (length x / 129) r ≡ true
-sound-here a x g c i r e f h l = rw e (ap (recordSound (length a / 129)) f ∙ records-sound-at (length a / 129) g c i h l)
+pub sound-here : (a x g : List ℕ) (c i : ℕ) (r : Record) → length x ≡ length a → r ≡ recordAt g i → recordsSound (length a / pageWords) g c ≡ true → i < c
+    → recordSound (length x / pageWords) r ≡ true
+sound-here a x g c i r e f h l = rw e (ap (recordSound (length a / pageWords)) f ∙ records-sound-at (length a / pageWords) g c i h l)
 
 -- a log sound for n pages, the stored pages a, is so for what is made of them
-module _ (n : ℕ) (a g : List ℕ) (c : ℕ) (len : length a ≡ 129 * n) (sound : recordsSound n g c ≡ true) where
-  as-long : (x : List ℕ) → length x ≡ length a → recordsSound (length x / 129) g c ≡ true
-  as-long x e = let z : length x / 129 ≡ n = omega arith in rw z sound
+module _ (n : ℕ) (a g : List ℕ) (c : ℕ) (len : length a ≡ pageWords * n) (sound : recordsSound n g c ≡ true) where
+  as-long : (x : List ℕ) → length x ≡ length a → recordsSound (length x / pageWords) g c ≡ true
+  as-long x e = let z : length x / pageWords ≡ n = omega arith in rw z sound
 
-  pub sound-copied : (x : List ℕ) → x ≡ a → recordsSound (length x / 129) g c ≡ true
+  pub sound-copied : (x : List ℕ) → x ≡ a → recordsSound (length x / pageWords) g c ≡ true
   sound-copied x e = as-long x (ap length e)
 
-  pub sound-redone : (x y : List ℕ) → x ≡ a → y ≡ redone x g c → recordsSound (length y / 129) g c ≡ true
+  pub sound-redone : (x y : List ℕ) → x ≡ a → y ≡ redone x g c → recordsSound (length y / pageWords) g c ≡ true
   sound-redone x y e f = as-long y (ap length f ∙ length-redone x g c ∙ ap length e)
 
 -- all of it: b holds the stored pages, x them redone, y the undone

@@ -1,14 +1,18 @@
 ghost use mathlib.Core.Path.{_≡_};
 ghost use Prim.Native.Nat.{_*_, _≤_};
 ghost use lib.ListN.{length};
+ghost use Rattle.pages.specs.Geometry.{maxPages, pageWords};
+ghost use Rattle.records.specs.Records.{recordWords};
 ghost use Rattle.recovering.specs.Reading.{foundOf};
 use crate::Scan;
 use crate::reading;
+use crate::word_scan;
 use areas::Refusal;
 
-// Refusal 14 of a store of n pages and l records but for the pages that they leave: the stable count, the stored pages, then the records.
+// Refusal 14 of a store of n pages and l records but for the pages that they leave: the stable count, the stored pages, the words of
+// each record, then their order.
 pub fn find_open(stored: &[u32], log: &[u32], n: usize, l: usize, c: usize) -> Scan
-    requires { ⌜ (1 ≤ n) × (n ≤ 256) × (length (now stored) ≡ 129 * n) × (length (now log) ≡ 6 * l) ⌝ }
+    requires { ⌜ (1 ≤ n) × (n ≤ maxPages) × (length (now stored) ≡ pageWords * n) × (length (now log) ≡ recordWords * l) ⌝ }
     ensures { λ x. ⌜ x ≡ foundOf n l (now (stored .entry)) (now (log .entry)) c ⌝ }
 {
     if l < c {
@@ -17,11 +21,8 @@ pub fn find_open(stored: &[u32], log: &[u32], n: usize, l: usize, c: usize) -> S
     if !page_check::sound::area_sound(stored, n) {
         return Scan::Refuse(Refusal::Unsound);
     }
-    if !record_ops::log_sound(log, n, c) {
+    if !word_scan::words_sound(log, n, c) {
         return Scan::Refuse(Refusal::Unsound);
     }
-    let Scan::Open(m) = reading::open_after(log, n, c) else {
-        return Scan::Refuse(Refusal::Unsound);
-    };
-    Scan::Open(m)
+    reading::open_after(log, c)
 }

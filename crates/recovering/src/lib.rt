@@ -2,6 +2,7 @@
 mod check;
 mod making;
 mod reading;
+mod word_scan;
 
 use areas::Refusal;
 pub use check::find_open;
@@ -9,7 +10,7 @@ pub use making::recover;
 pub use making::restart;
 use records::Record;
 
-// What the reader finds: a record, or that it is unsound.
+// What the reader finds: a record, or that it is unsound where it stands.
 pub enum Read {
     Sound(Record),
     Unsound,

@@ -3,17 +3,22 @@ ghost use mathlib.Core.Bool.{true};
 ghost use Prim.Native.Nat.{_*_, _/_, _<_, _≤_};
 ghost use lib.ListN.{length, getD, set, replicate};
 ghost use Rattle.words.specs.Tests.{all};
+ghost use Rattle.pages.specs.Geometry.{pageWords};
+ghost use Rattle.records.specs.Records.{recordWords, txnCount};
 ghost use Rattle.records.specs.Soundness.{recordSound, recordsSound};
 ghost use Rattle.records.specs.Order.{openIn};
 ghost use Rattle.records.specs.Recovery.{redone, undoneIn, recovered};
 ghost use Rattle.pages.specs.Soundness.{freeZero};
+ghost use Rattle.areas.specs.Areas.{countWords};
+ghost use Rattle.areas.specs.Layout.{reopeningAt, running};
 ghost use Rattle.recovering.specs.Rebuilding.{leaving, takenBack};
+use areas::layout;
 use bit_ops::bits;
 use records::Record;
 
 // The first c records take effect, in order.
 fn redo(a: &mut [u32], log: &[u32], c: usize)
-    requires { ⌜ (6 * c ≤ length (now log)) × (recordsSound (length (now a) / 129) (now log) c ≡ true) ⌝ }
+    requires { ⌜ (recordWords * c ≤ length (now log)) × (recordsSound (length (now a) / pageWords) (now log) c ≡ true) ⌝ }
     ensures { λ _. ⌜ now (a .exit) ≡ redone (now (a .entry)) (now (log .entry)) c ⌝ }
 {
     for i in 0..c {
@@ -23,7 +28,7 @@ fn redo(a: &mut [u32], log: &[u32], c: usize)
 
 // A record is undone if it is of a transaction of m.
 fn take_back_of(a: &mut [u32], m: u32, r: Record)
-    requires { ⌜ recordSound (length (now a) / 129) r ≡ true ⌝ }
+    requires { ⌜ recordSound (length (now a) / pageWords) r ≡ true ⌝ }
     ensures { λ _. ⌜ now (a .exit) ≡ takenBack m (now (a .entry)) r ⌝ }
 {
     if !words::has_bit(m, r.txn as usize) {
@@ -34,10 +39,10 @@ fn take_back_of(a: &mut [u32], m: u32, r: Record)
 
 // The transactions of m without the one that a record begins: what is undone of it ends there.
 fn leave(m: u32, r: Record) -> u32
-    requires { ⌜ r .txn < 16 ⌝ }
+    requires { ⌜ r .txn < txnCount ⌝ }
     ensures { λ x. ⌜ x ≡ leaving m r ⌝ }
 {
-    if r.kind == 1 {
+    if r.kind == records::BEGIN {
         return bits::without_bit(m, r.txn as usize);
     }
     m
@@ -45,7 +50,7 @@ fn leave(m: u32, r: Record) -> u32
 
 // The transactions of m are undone over the first c records, newest first.
 fn undo(a: &mut [u32], log: &[u32], c: usize, m: u32)
-    requires { ⌜ (6 * c ≤ length (now log)) × (recordsSound (length (now a) / 129) (now log) c ≡ true) ⌝ }
+    requires { ⌜ (recordWords * c ≤ length (now log)) × (recordsSound (length (now a) / pageWords) (now log) c ≡ true) ⌝ }
     ensures { λ _. ⌜ now (a .exit) ≡ undoneIn (now (log .entry)) m c (now (a .entry)) ⌝ }
 {
     let mut left = m;
@@ -61,7 +66,7 @@ fn undo(a: &mut [u32], log: &[u32], c: usize, m: u32)
 
 // An area becomes what the stored pages and the first c records give. Answers whether the free slots of its n pages are zero.
 pub fn recover(stored: &[u32], a: &mut [u32], log: &[u32], n: usize, c: usize, m: u32) -> bool
-    requires { ⌜ (length (now a) ≡ length (now stored)) × (length (now stored) ≡ 129 * n) × (6 * c ≤ length (now log)) × (recordsSound n (now log) c ≡ true) × (m ≡ openIn (now log) c) ⌝ }
+    requires { ⌜ (length (now a) ≡ length (now stored)) × (length (now stored) ≡ pageWords * n) × (recordWords * c ≤ length (now log)) × (recordsSound n (now log) c ≡ true) × (m ≡ openIn (now log) c) ⌝ }
     ensures { λ b. ⌜ (b ≡ all (freeZero (recovered (now (stored .entry)) (now (log .entry)) c)) n) × (now (a .exit) ≡ recovered (now (stored .entry)) (now (log .entry)) c) ⌝ }
 {
     page_ops::areas::copy_area(stored, a);
@@ -72,10 +77,10 @@ pub fn recover(stored: &[u32], a: &mut [u32], log: &[u32], n: usize, c: usize, m
 
 // The received count becomes the stable count, and the working tables clear but for a running reopening.
 pub fn restart(counts: &mut [u32], work: &mut [u32])
-    requires { ⌜ (length (now counts) ≡ 2) × (1 ≤ length (now work)) ⌝ }
-    ensures { λ _. ⌜ (now (counts .exit) ≡ set (now (counts .entry)) 0 (getD (now (counts .entry)) 1 0)) × (now (work .exit) ≡ set (replicate (length (now (work .entry))) 0) 0 1) ⌝ }
+    requires { ⌜ (length (now counts) ≡ countWords) × (1 ≤ length (now work)) ⌝ }
+    ensures { λ _. ⌜ (now (counts .exit) ≡ set (now (counts .entry)) 0 (getD (now (counts .entry)) 1 0)) × (now (work .exit) ≡ set (replicate (length (now (work .entry))) 0) reopeningAt running) ⌝ }
 {
-    counts[0] = counts[1];
+    counts[layout::RECEIVED] = counts[layout::STABLE];
     page_ops::areas::clear(work);
-    work[0] = 1;
+    work[layout::REOPENING_AT] = layout::RUNNING;
 }

@@ -42,7 +42,7 @@ use denote.Triple.Table.{entered, cited}
 use denote.Triple.Walked.{says, needs, Stays, stay-none, walkOf, goes-none, Walks, ends-at, walked, walk-meets}
 use denote.Exit.{yes}
 use denote.Triple.Clauses.{ensured, lasts}
-use Rattle.records.specs.Records.{recordAt}
+use Rattle.records.specs.Records.{recordWords, recordAt}
 use Rattle.log_reader.specs.declared.Reader.{Reader}
 use Rattle.records.specs.declared.Record.{Record}
 use Rattle.log_reader.proofs.Reader as T
@@ -64,7 +64,7 @@ B κs = T.the-row (namedLft 1 0 tt κs)
 
 -- what `words_at` requires
 abbrev Inside : Reader → Type 0
-Inside d = 6 * (d .at) + 6 ≤ length (now (d .log))
+Inside d = recordWords * (d .at) + recordWords ≤ length (now (d .log))
 
 abbrev stayed : Stays (read.ended .signature .params) (read.ended .kept)
 stayed = (stay-none B yes, tt)

@@ -37,7 +37,7 @@ use denote.Triple.Table.{entered, cited}
 use denote.Triple.Walked.{says, needs, Stays, stay-none, stay-none-slice, walkOf, goes-none, goes-none-slice, Walks, ends-at, walked, walk-meets}
 use denote.Exit.{yes}
 use denote.Triple.Clauses.{ensured, lasts}
-use Rattle.records.specs.Records.{recordAt}
+use Rattle.records.specs.Records.{recordWords, recordAt}
 use Rattle.log_reader.specs.declared.Reader.{Reader}
 use Rattle.records.specs.declared.Record.{Record}
 use Rattle.log_reader.proofs.Reader as T
@@ -63,7 +63,7 @@ B κs = T.the-row (namedLft 1 0 tt κs)
 
 -- what `read` requires
 abbrev Inside : RefT (List ℕ) → ℕ → Type 0
-Inside s n = 6 * n + 6 ≤ length (now s)
+Inside s n = recordWords * n + recordWords ≤ length (now s)
 
 abbrev stayed : Stays (record-at.ended .signature .params) (record-at.ended .kept)
 stayed = (stay-none-slice (0 ∷ []) tt (plain (λ _. u32)) yes, (stay-none (λ _. usize) yes, tt))

@@ -2,39 +2,29 @@ use mathlib.Core.Path.{_∙_}
 use native.Mathlib.Omega.{arith}
 use borrow.Author.Needs.{needs}
 use Rattle.records.specs.Effects.{effect}
-use Rattle.record_laws.specs.RecordLaws.{sound-record}
 use Rattle.record_laws.specs.EffectLaws.{effect-none}
 use Rattle.record_ops.proofs.effects.apply.Statement.{statement}
 use Rattle.record_ops.proofs.effects.apply.Tie as tie
 
 occupy-requires : tie.Need-occupy-requires
-occupy-requires c κs = let h = sound-record _ _ (c .before .before .before .pre) .create (c .before .match .keys2) in omega arith
+occupy-requires c κs = let h = c .before .before .before .pre .create (c .before .match .keys2) in omega arith
 
 write-word-requires : tie.Need-write-word-requires
-write-word-requires c κs = let s = sound-record _ _ (c .before .before .before .pre) in let h = s .write (c .before .match .keys3) in let f = s .field-below in omega arith
+write-word-requires c κs = let h = c .before .before .before .pre .write (c .before .match .keys3) in omega arith
 
 release-requires : tie.Need-release-requires
-release-requires c κs = let h = sound-record _ _ (c .before .before .before .pre) .uncreate (c .before .match .keys6) in omega arith
-
-cast-release-slots : tie.Need-cast-release-slots
-cast-release-slots c = search needs
+release-requires c κs = let h = c .before .before .before .pre .uncreate (c .before .match .keys6) in omega arith
 
 release-slots-requires : tie.Need-release-slots-requires
-release-slots-requires c κs = let h = sound-record _ _ (c .before .before .before .before .pre) .sweep (c .before .before .match .keys7) in omega arith
+release-slots-requires c κs = let h = c .before .before .before .before .pre .sweep (c .before .before .match .keys7) in omega arith
 
 returns : tie.Need-returns
 unfolding effect
 returns c = rw (c .match .keys1)
 
-same-length : tie.Need-same-length
-same-length c = search needs
-
 returns-2 : tie.Need-returns-2
 unfolding effect
 returns-2 c = c .before .before .occupy .ensures ∙ rw (c .before .before .before .before .match .keys2)
-
-same-length-2 : tie.Need-same-length-2
-same-length-2 c = search needs
 
 returns-3 : tie.Need-returns-3
 unfolding effect
@@ -48,15 +38,9 @@ returns-5 : tie.Need-returns-5
 unfolding effect
 returns-5 c = rw (c .match .keys5)
 
-same-length-3 : tie.Need-same-length-3
-same-length-3 c = search needs
-
 returns-6 : tie.Need-returns-6
 unfolding effect
 returns-6 c = c .before .before .release .ensures ∙ rw (c .before .before .before .before .match .keys6)
-
-same-length-4 : tie.Need-same-length-4
-same-length-4 c = search needs
 
 returns-7 : tie.Need-returns-7
 unfolding effect
@@ -76,18 +60,18 @@ apply-spec =
     occupy-requires
     write-word-requires
     release-requires
-    cast-release-slots
+    (λ c. search needs)
     release-slots-requires
     returns
-    same-length
+    (λ c. search needs)
     returns-2
-    same-length-2
+    (λ c. search needs)
     returns-3
     returns-4
     returns-5
-    same-length-3
+    (λ c. search needs)
     returns-6
-    same-length-4
+    (λ c. search needs)
     returns-7
     returns-8
     returns-9)

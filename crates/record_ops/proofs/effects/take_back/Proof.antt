@@ -2,36 +2,26 @@ use mathlib.Core.Path.{_∙_}
 use native.Mathlib.Omega.{arith}
 use borrow.Author.Needs.{needs}
 use Rattle.records.specs.Effects.{undone}
-use Rattle.record_laws.specs.RecordLaws.{sound-record}
 use Rattle.record_laws.specs.EffectLaws.{undone-none}
 use Rattle.record_ops.proofs.effects.take_back.Statement.{statement}
 use Rattle.record_ops.proofs.effects.take_back.Tie as tie
 
 release-requires : tie.Need-release-requires
-release-requires c κs = let h = sound-record _ _ (c .before .before .before .pre) .create (c .before .match .keys1) in omega arith
+release-requires c κs = let h = c .before .before .before .pre .create (c .before .match .keys1) in omega arith
 
 write-word-requires : tie.Need-write-word-requires
-write-word-requires c κs = let s = sound-record _ _ (c .before .before .before .pre) in let h = s .write (c .before .match .keys2) in let f = s .field-below in omega arith
+write-word-requires c κs = let h = c .before .before .before .pre .write (c .before .match .keys2) in omega arith
 
 occupy-requires : tie.Need-occupy-requires
-occupy-requires c κs = let h = sound-record _ _ (c .before .before .before .pre) .uncreate (c .before .match .keys3) in omega arith
-
-same-length : tie.Need-same-length
-same-length c = search needs
+occupy-requires c κs = let h = c .before .before .before .pre .uncreate (c .before .match .keys3) in omega arith
 
 returns : tie.Need-returns
 unfolding undone
 returns c = c .before .before .release .ensures ∙ rw (c .before .before .before .before .match .keys1)
 
-same-length-2 : tie.Need-same-length-2
-same-length-2 c = search needs
-
 returns-2 : tie.Need-returns-2
 unfolding undone
 returns-2 c = c .before .before .write-word .ensures ∙ rw (c .before .before .before .before .match .keys2)
-
-same-length-3 : tie.Need-same-length-3
-same-length-3 c = search needs
 
 returns-3 : tie.Need-returns-3
 unfolding undone
@@ -47,10 +37,10 @@ take-back-spec =
     release-requires
     write-word-requires
     occupy-requires
-    same-length
+    (λ c. search needs)
     returns
-    same-length-2
+    (λ c. search needs)
     returns-2
-    same-length-3
+    (λ c. search needs)
     returns-3
     returns-4)

@@ -3,6 +3,7 @@ use mathlib.Core.Logic.{⊎-elim}
 use mathlib.Core.Path.{_≡_, refl, sym, _∙_}
 use native.Mathlib.Omega.{arith}
 use borrow.Author.Needs.{needs}
+use Rattle.pages.specs.Geometry.{maxPages}
 use Rattle.records.specs.Naming.{lastNaming}
 use Rattle.record_laws.specs.RecordLaws.{record-facts, named-from, named-below, naming-some, naming-none}
 use Rattle.record_ops.proofs.naming.last_naming.Statement.{statement}
@@ -21,37 +22,22 @@ loop-holds c = (omega arith, refl)
 record-at-requires : tie.Need-record-at-requires Inv-loop μ-loop
 record-at-requires c κs = omega arith
 
-names-page-requires : tie.Need-names-page-requires Inv-loop μ-loop
-names-page-requires c κs = search needs
-
 page-named-requires : tie.Need-page-named-requires Inv-loop μ-loop
 page-named-requires c κs =
     let s = c .before .before in
-    named-from 256 _ (record-facts 256 _ _ _ _ (s .record-at .ensures) (s .before .before .before .before .pre .2) (s .before .loop-test .taken))
+    named-from maxPages _ (record-facts maxPages _ _ _ _ (s .record-at .ensures) (s .before .before .before .before .pre .2) (s .before .loop-test .taken))
     (sym (c .before .names-page .ensures) ∙ c .if1 .taken)
-
-cast-last : tie.Need-cast-last Inv-loop μ-loop
-cast-last c = search needs
-
-add-last : tie.Need-add-last Inv-loop μ-loop
-add-last c = search needs
 
 array-write-last : tie.Need-array-write-last Inv-loop μ-loop
 array-write-last c =
     let s = c .before .before .before in
-    let f = record-facts 256 _ _ _ _ (s .record-at .ensures) (s .before .before .before .before .pre .2) (s .before .loop-test .taken) in
-    let h = named-below 256 _ f (sym (c .before .before .names-page .ensures) ∙ c .before .if1 .taken) in
+    let f = record-facts maxPages _ _ _ _ (s .record-at .ensures) (s .before .before .before .before .pre .2) (s .before .loop-test .taken) in
+    let h = named-below maxPages _ f (sym (c .before .before .names-page .ensures) ∙ c .before .if1 .taken) in
     let e = c .page-named .ensures in
     omega arith
 
 mul-last : tie.Need-mul-last Inv-loop μ-loop
 mul-last c = let h = array-write-last c in omega arith
-
-add-i : tie.Need-add-i Inv-loop μ-loop
-add-i c = search needs
-
-loop-less : tie.Need-loop-less Inv-loop μ-loop
-loop-less c = search needs
 
 loop-again : tie.Need-loop-again Inv-loop μ-loop
 loop-again c =
@@ -76,13 +62,13 @@ last-naming-spec =
     μ-loop
     loop-holds
     record-at-requires
-    names-page-requires
+    (λ c κs. search needs)
     page-named-requires
-    cast-last
-    add-last
+    (λ c. search needs)
+    (λ c. search needs)
     mul-last
     array-write-last
-    add-i
-    loop-less
+    (λ c. search needs)
+    (λ c. search needs)
     loop-again
     returns)

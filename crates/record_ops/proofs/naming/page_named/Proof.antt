@@ -6,14 +6,8 @@ use Rattle.words.specs.Tests.{if-t, if-f}
 use Rattle.record_ops.proofs.naming.page_named.Statement.{statement}
 use Rattle.record_ops.proofs.naming.page_named.Tie as tie
 
-cast-result : tie.Need-cast-result
-cast-result c = search needs
-
 returns : tie.Need-returns
 returns c = sym (if-t _ _ _ (eq-eqb _ _ (c .before .if1 .taken)))
-
-cast-result-2 : tie.Need-cast-result-2
-cast-result-2 c = search needs
 
 sub-result : tie.Need-sub-result
 sub-result c = let h = c .before .before .before .pre (ne-eqb _ _ (c .before .if1 .left)) in omega arith
@@ -22,4 +16,4 @@ returns-2 : tie.Need-returns-2
 returns-2 c = sym (if-f _ _ _ (ne-eqb _ _ (c .before .if1 .left)))
 
 pub page-named-spec : {M : Type 1} → statement M
-page-named-spec = tie.close (tie.spec cast-result returns cast-result-2 sub-result returns-2)
+page-named-spec = tie.close (tie.spec (λ c. search needs) returns (λ c. search needs) sub-result returns-2)

@@ -17,9 +17,6 @@ loop-holds : tie.Need-loop-holds Inv-loop μ-loop
 unfolding sharesIn
 loop-holds c = (omega arith, refl)
 
-record-at-requires : tie.Need-record-at-requires Inv-loop μ-loop
-record-at-requires c κs = search needs
-
 cast-t : tie.Need-cast-t Inv-loop μ-loop
 cast-t c = let h = record-facts _ _ _ _ _ (c .before .record-at .ensures) (c .before .before .before .before .before .pre .2) (c .before .before .loop-test .taken) .txn-below in omega arith
 
@@ -38,12 +35,6 @@ mul-shares c = let h = record-facts _ _ _ _ _ (c .before .before .record-at .ens
 array-write-shares : tie.Need-array-write-shares Inv-loop μ-loop
 array-write-shares c = record-facts _ _ _ _ _ (c .before .before .record-at .ensures) (c .before .before .before .before .before .before .pre .2) (c .before .before .before .loop-test .taken) .txn-below
 
-add-i : tie.Need-add-i Inv-loop μ-loop
-add-i c = search needs
-
-loop-less : tie.Need-loop-less Inv-loop μ-loop
-loop-less c = search needs
-
 loop-again : tie.Need-loop-again Inv-loop μ-loop
 loop-again c = (omega arith, shares-next _ _ _ _ _ (c .before .before .record-at .ensures) (c .before .before .before .before .loop .inv .1) (c .share-next .ensures))
 
@@ -57,14 +48,14 @@ reserves-spec =
     Inv-loop
     μ-loop
     loop-holds
-    record-at-requires
+    (λ c κs. search needs)
     cast-t
     mul-share-next
     array-read-share-next
     share-next-requires
     mul-shares
     array-write-shares
-    add-i
-    loop-less
+    (λ c. search needs)
+    (λ c. search needs)
     loop-again
     returns)

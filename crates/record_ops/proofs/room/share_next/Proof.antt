@@ -8,9 +8,6 @@ use Rattle.record_ops.proofs.room.share_next.Tie as tie
 returns : tie.Need-returns
 returns c = sym (if-t _ _ _ (eq-eqb _ _ (c .if1 .taken)))
 
-add-result : tie.Need-add-result
-add-result c = search needs
-
 returns-2 : tie.Need-returns-2
 returns-2 c = sym (if-f _ _ _ (ne-eqb _ _ (c .before .before .if1 .left)) ∙ if-t _ _ _ (c .before .if2 .taken) ∙ if-t _ _ _ (eq-eqb _ _ (c .if3 .taken)))
 
@@ -21,4 +18,4 @@ returns-4 : tie.Need-returns-4
 returns-4 c = sym (if-f _ _ _ (ne-eqb _ _ (c .before .if1 .left)) ∙ if-f _ _ _ (c .if2 .left))
 
 pub share-next-spec : {M : Type 1} → statement M
-share-next-spec = tie.close (tie.spec returns add-result returns-2 returns-3 returns-4)
+share-next-spec = tie.close (tie.spec returns (λ c. search needs) returns-2 returns-3 returns-4)

@@ -5,12 +5,6 @@ use borrow.Author.Needs.{needs}
 use Rattle.recovering.proofs.making.leave.Statement.{statement}
 use Rattle.recovering.proofs.making.leave.Tie as tie
 
-cast-without-bit : tie.Need-cast-without-bit
-cast-without-bit c = search needs
-
-without-bit-requires : tie.Need-without-bit-requires
-without-bit-requires c κs = search needs
-
 returns : tie.Need-returns
 returns c = c .without-bit .ensures ∙ sym (if-t _ _ _ (eq-eqb _ _ (c .before .before .if1 .taken)))
 
@@ -18,4 +12,4 @@ returns-2 : tie.Need-returns-2
 returns-2 c = sym (if-f _ _ _ (ne-eqb _ _ (c .if1 .left)))
 
 pub leave-spec : {M : Type 1} → statement M
-leave-spec = tie.close (tie.spec cast-without-bit without-bit-requires returns returns-2)
+leave-spec = tie.close (tie.spec (λ c. search needs) (λ c κs. search needs) returns returns-2)

@@ -8,20 +8,11 @@ use borrow.Author.Needs.{needs}
 use Rattle.recovering.proofs.making.recover.Statement.{statement}
 use Rattle.recovering.proofs.making.recover.Tie as tie
 
-copy-area-requires : tie.Need-copy-area-requires
-copy-area-requires c κs = search needs
-
 redo-requires : tie.Need-redo-requires
 redo-requires c κs = let h = c .before .before .before .before .before .before .before .before .pre in (h .2, sound-copied _ _ _ _ (h .1) (h .3) _ (c .before .before .before .copy-area .ensures))
 
 undo-requires : tie.Need-undo-requires
 undo-requires c κs = let h = c .before .before .before .before .before .before .before .before .before .before .before .before .pre in (h .2, sound-redone _ _ _ _ (h .1) (h .3) _ _ (c .before .before .before .before .before .before .before .copy-area .ensures) (c .before .before .before .redo .ensures))
-
-pages-free-zero-requires : tie.Need-pages-free-zero-requires
-pages-free-zero-requires c κs = search needs
-
-same-length : tie.Need-same-length
-same-length c = search needs
 
 returns : tie.Need-returns
 returns c = let h = c .before .before .before .before .before .before .before .before .before .before .before .before .before .before .before .before .before .pre in let e = rebuilt _ _ _ _ _ _ _ (h .4) (c .before .before .before .before .before .before .before .before .before .before .before .before .copy-area .ensures) (c .before .before .before .before .before .before .before .before .redo .ensures) (c .before .before .before .before .undo .ensures) in (c .pages-free-zero .ensures ∙ ap (λ (x : List ℕ). all (freeZero x) (c .before .before .before .before .before .before .before .before .before .before .before .before .before .before .before .before .before .args .n)) e, e)
@@ -30,9 +21,9 @@ pub recover-spec : {M : Type 1} → statement M
 recover-spec =
     tie.close
     (tie.spec
-    copy-area-requires
+    (λ c κs. search needs)
     redo-requires
     undo-requires
-    pages-free-zero-requires
-    same-length
+    (λ c κs. search needs)
+    (λ c. search needs)
     returns)

@@ -4,6 +4,7 @@ use mathlib.Core.Path.{_≡_, refl, _∙_}
 use Prim.Native.Nat.{_≤_, _-_}
 use lib.ListN.{length}
 use Rattle.records.specs.Recovery.{redone}
+use Rattle.record_ops.specs.InRange.{sound-in-range}
 use Rattle.recovering.specs.Rebuilding.{redone-turn, sound-here}
 use Rattle.recovering.proofs.making.redo.Statement.{statement}
 use Rattle.recovering.proofs.making.redo.Tie as tie
@@ -18,23 +19,11 @@ loop-holds : tie.Need-loop-holds Inv-loop μ-loop
 unfolding redone
 loop-holds c = (omega arith, refl, refl)
 
-record-at-requires : tie.Need-record-at-requires Inv-loop μ-loop
-record-at-requires c κs = search needs
-
 apply-requires : tie.Need-apply-requires Inv-loop μ-loop
-apply-requires c κs = sound-here (c .before .before .before .before .before .before .args .a .now) (c .before .before .before .loop .a) (c .before .before .before .before .before .before .args .log .now) (c .before .before .before .before .before .before .args .c) (c .before .before .before .loop .i) (c .record-at .result) (c .before .before .before .loop .inv .1) (c .record-at .ensures) (c .before .before .before .before .before .before .pre .1) (c .before .before .loop-test .taken)
-
-add-i : tie.Need-add-i Inv-loop μ-loop
-add-i c = search needs
-
-loop-less : tie.Need-loop-less Inv-loop μ-loop
-loop-less c = search needs
+apply-requires c κs = sound-in-range _ _ (sound-here (c .before .before .before .before .before .before .args .a .now) (c .before .before .before .loop .a) (c .before .before .before .before .before .before .args .log .now) (c .before .before .before .before .before .before .args .c) (c .before .before .before .loop .i) (c .record-at .result) (c .before .before .before .loop .inv .1) (c .record-at .ensures) (c .before .before .before .before .before .before .pre .1) (c .before .before .loop-test .taken))
 
 loop-again : tie.Need-loop-again Inv-loop μ-loop
 loop-again c = (omega arith, search needs, c .before .before .apply .ensures ∙ redone-turn _ _ _ _ _ (c .before .before .before .before .before .before .loop .inv .2) (c .before .before .before .record-at .ensures))
-
-same-length : tie.Need-same-length Inv-loop μ-loop
-same-length c = search needs
 
 returns : tie.Need-returns Inv-loop μ-loop
 returns c = let e : c .before .loop .i ≡ c .before .before .before .before .args .c = omega arith in rw e at (c .before .loop .inv .2)
@@ -46,10 +35,10 @@ redo-spec =
     Inv-loop
     μ-loop
     loop-holds
-    record-at-requires
+    (λ c κs. search needs)
     apply-requires
-    add-i
-    loop-less
+    (λ c. search needs)
+    (λ c. search needs)
     loop-again
-    same-length
+    (λ c. search needs)
     returns)

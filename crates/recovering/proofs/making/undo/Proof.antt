@@ -15,23 +15,11 @@ Inv-loop a₀ log c m left₀ back₀ back-end a left back = (1 ≤ back) × (ba
 abbrev μ-loop : tie.MeasureT-loop
 μ-loop a₀ log c m left₀ back₀ back-end a left back = c + 1 - back
 
-add-back-end : tie.Need-add-back-end Inv-loop μ-loop
-add-back-end c = search needs
-
 loop-holds : tie.Need-loop-holds Inv-loop μ-loop
 loop-holds c = (omega arith, omega arith, refl, refl, undone-first _ _ _ _)
 
-same-length : tie.Need-same-length Inv-loop μ-loop
-same-length c = search needs
-
 returns : tie.Need-returns Inv-loop μ-loop
 returns c = undone-none _ _ _ _ (c .if1 .taken) ∙ c .before .before .loop .inv .4
-
-sub-record-at : tie.Need-sub-record-at Inv-loop μ-loop
-sub-record-at c = search needs
-
-record-at-requires : tie.Need-record-at-requires Inv-loop μ-loop
-record-at-requires c κs = search needs
 
 take-back-of-requires : tie.Need-take-back-of-requires Inv-loop μ-loop
 take-back-of-requires c κs = sound-here (c .before .before .before .before .before .before .before .args .a .now) (c .before .before .before .before .loop .a) (c .before .before .before .before .before .before .before .args .log .now) (c .before .before .before .before .before .before .before .args .c) (c .before .before .before .before .before .before .before .args .c - c .before .before .before .before .loop .back) (c .before .record-at .result) (c .before .before .before .before .loop .inv .3) (c .before .record-at .ensures) (c .before .before .before .before .before .before .before .pre .1) (omega arith)
@@ -39,17 +27,8 @@ take-back-of-requires c κs = sound-here (c .before .before .before .before .bef
 leave-requires : tie.Need-leave-requires Inv-loop μ-loop
 leave-requires c κs = record-facts _ _ _ _ _ (c .before .before .before .before .record-at .ensures) (c .before .before .before .before .before .before .before .before .before .before .pre .1) (omega arith) .txn-below
 
-add-back : tie.Need-add-back Inv-loop μ-loop
-add-back c = search needs
-
-loop-less : tie.Need-loop-less Inv-loop μ-loop
-loop-less c = search needs
-
 loop-again : tie.Need-loop-again Inv-loop μ-loop
 loop-again c = (omega arith, omega arith, search needs, search needs, undone-back _ _ _ _ _ _ (c .before .before .before .before .before .before .before .before .loop .inv .0) (omega arith) (c .before .before .before .before .before .record-at .ensures) (c .leave .ensures) (c .before .before .before .take-back-of .ensures) ∙ c .before .before .before .before .before .before .before .before .loop .inv .4)
-
-same-length-2 : tie.Need-same-length-2 Inv-loop μ-loop
-same-length-2 c = search needs
 
 returns-2 : tie.Need-returns-2 Inv-loop μ-loop
 returns-2 c = undone-end _ _ _ _ (omega arith) ∙ c .before .loop .inv .4
@@ -60,16 +39,16 @@ undo-spec =
     (tie.spec
     Inv-loop
     μ-loop
-    add-back-end
+    (λ c. search needs)
     loop-holds
-    same-length
+    (λ c. search needs)
     returns
-    sub-record-at
-    record-at-requires
+    (λ c. search needs)
+    (λ c κs. search needs)
     take-back-of-requires
     leave-requires
-    add-back
-    loop-less
+    (λ c. search needs)
+    (λ c. search needs)
     loop-again
-    same-length-2
+    (λ c. search needs)
     returns-2)

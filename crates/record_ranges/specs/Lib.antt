@@ -1,0 +1,2 @@
+-- The ranges of a record's words.
+pub mod Ranges
