@@ -4,11 +4,11 @@ use mathlib.Core.Path.{_≡_, ap, _∙_}
 use mathlib.Core.Bool.{Bool, true, false, _&&_, cond as if}
 use lib.Dec.{eqb}
 use borrow.Author.Tests.{eq-eqb, ne-eqb}
-use Rattle.bench_lines.specs.Lines.{cr, lf}
-use Rattle.bench_lines.specs.Reading.{noLine, pushed, settled, heldCommand, fed, finished}
-use Rattle.bench_lines.specs.declared.Line.{Line}
-use Rattle.bench_lines.specs.declared.Ended.the-variants.{No, Yes}
-use Rattle.bench_lines.specs.declared.Fed.{Fed}
+use Rattle.texts.specs.Text.{cr, lf}
+use Rattle.bench_feeding.specs.Reading.{noLine, pushed, settled, heldCommand, fed, finished}
+use Rattle.bench_feeding.specs.declared.Line.{Line}
+use Rattle.bench_feeding.specs.declared.Ended.the-variants.{No, Yes}
+use Rattle.bench_feeding.specs.declared.Fed.{Fed}
 
 -- a choice whose test is known
 module _ {A : Type 0} (t : Bool) (x y : A) where

@@ -9,16 +9,21 @@ use native.Mathlib.Omega.{arith}
 use lib.Dec.{leb, ltb, eqb}
 use lib.ListN.{length}
 use borrow.Author.Tests.{leb-true, leb-false, eqb-false, ltb-false}
-use Rattle.bench_lines.specs.Lines.{onto}
-use Rattle.bench_lines.specs.Numbers.{isDigit, andDigit, digitsFrom, numberOf}
-use Rattle.bench_lines.specs.Commands.{comma, same, fieldsOf, andNumber, numbersFrom, callAlone, callOne, callTwo, callFour, callOf, callOfFields, commandOf}
-use Rattle.bench_lines.specs.Commands.{begin, commit, abort, lockr, lockw, flush, read, create, set, store, force, empty, pass, step, reopen, restep}
-use Rattle.bench_lines.specs.declared.Command.the-variants.{NoCall}
-use Rattle.bench_lines.specs.declared.Number.{Number}
-use Rattle.bench_lines.specs.declared.Number.the-variants.{Is, Not}
-use Rattle.bench_lines.specs.declared.Numbers.{Numbers}
-use Rattle.bench_lines.specs.declared.Numbers.the-variants.{Zero, One, Two, Three, Four, Bad}
-use Rattle.bench_lines.proofs.Texts.{same-lengths}
+use Rattle.texts.specs.Text.{comma}
+use Rattle.texts.specs.Same.{same}
+use Rattle.texts.specs.SameLaws.{same-lengths}
+use Rattle.texts.specs.Lines.{onto}
+use Rattle.texts.specs.Fields.{fieldsOf}
+use Rattle.decimals.specs.Digits.{base, digitZero, digitNine, largest}
+use Rattle.decimals.specs.Numbers.{isDigit, andDigit, digitsFrom, numberOf}
+use Rattle.decimals.specs.declared.Number.{Number}
+use Rattle.decimals.specs.declared.Number.the-variants.{Is, Not}
+use Rattle.bench_names.specs.Names.{begin, commit, abort, lockr, lockw, flush, read, create, set, store, force, empty, pass, step, reopen, restep}
+use Rattle.bench_names.specs.Names.{callAlone, callOne, callTwo, callFour}
+use Rattle.bench_names.specs.declared.Command.the-variants.{NoCall}
+use Rattle.bench_commands.specs.Commands.{andNumber, numbersFrom, callOf, callOfFields, commandOf}
+use Rattle.bench_commands.specs.declared.Numbers.{Numbers}
+use Rattle.bench_commands.specs.declared.Numbers.the-variants.{Zero, One, Two, Three, Four, Bad}
 
 -- the bytes of the fields, each with a comma
 total : List (List ℕ) → ℕ
@@ -62,46 +67,46 @@ grow-by true n k m bs h r e =
 digits-grow : (n m : ℕ) (s : List ℕ) → digitsFrom n s ≡ Is m → n * 10 ^ length s ≤ m
 unfolding digitsFrom
 digits-grow n m [] e = let q : n ≡ m = cc in omega arith
-digits-grow n m (b ∷ bs) e = grow-by (isDigit b && leb (andDigit n b) 4294967295) n (andDigit n b) m bs (omega arith) (digits-grow (andDigit n b) m bs) e
+digits-grow n m (b ∷ bs) e = grow-by (isDigit b && leb (andDigit n b) largest) n (andDigit n b) m bs (omega arith) (digits-grow (andDigit n b) m bs) e
 
 -- a number has 32 bits
-most-by : (d l : Bool) (k m : ℕ) (bs : List ℕ) → (l ≡ true → k ≤ 4294967295) → (digitsFrom k bs ≡ Is m → k ≤ 4294967295 → m ≤ 4294967295)
-    → if (d && l) (digitsFrom k bs) Not ≡ Is m → m ≤ 4294967295
+most-by : (d l : Bool) (k m : ℕ) (bs : List ℕ) → (l ≡ true → k ≤ largest) → (digitsFrom k bs ≡ Is m → k ≤ largest → m ≤ largest)
+    → if (d && l) (digitsFrom k bs) Not ≡ Is m → m ≤ largest
 most-by false l k m bs h r e = absurd (not-is e)
 most-by true false k m bs h r e = absurd (not-is e)
 most-by true true k m bs h r e = r e (h refl)
 
-digits-most : (n m : ℕ) (s : List ℕ) → digitsFrom n s ≡ Is m → n ≤ 4294967295 → m ≤ 4294967295
+digits-most : (n m : ℕ) (s : List ℕ) → digitsFrom n s ≡ Is m → n ≤ largest → m ≤ largest
 unfolding digitsFrom
 digits-most n m [] e h = let q : n ≡ m = cc in omega arith
 digits-most n m (b ∷ bs) e h =
-    most-by (isDigit b) (leb (andDigit n b) 4294967295) (andDigit n b) m bs (leb-true (andDigit n b) 4294967295) (digits-most (andDigit n b) m bs) e
+    most-by (isDigit b) (leb (andDigit n b) largest) (andDigit n b) m bs (leb-true (andDigit n b) largest) (digits-most (andDigit n b) m bs) e
 
 -- a first digit other than '0', and ten more
-above : (b : ℕ) → (b ≡ 48 → ⊥) → (48 ≡ b) ⊎ (48 < b) → 48 < b
+above : (b : ℕ) → (b ≡ digitZero → ⊥) → (digitZero ≡ b) ⊎ (digitZero < b) → digitZero < b
 above b n (inl e) = absurd (n (sym e))
 above b n (inr h) = h
 
-first-by : (x y z : Bool) (b m : ℕ) (bs : List ℕ) → (x ≡ true → 48 ≤ b) → (z ≡ true → andDigit 0 b ≤ 4294967295) → (b ≡ 48 → ⊥) → 10 ≤ length bs
+first-by : (x y z : Bool) (b m : ℕ) (bs : List ℕ) → (x ≡ true → digitZero ≤ b) → (z ≡ true → andDigit 0 b ≤ largest) → (b ≡ digitZero → ⊥) → 10 ≤ length bs
     → if (x && y && z) (digitsFrom (andDigit 0 b) bs) Not ≡ Is m → ⊥
 first-by false y z b m bs hx hz n l e = not-is e
 first-by true false z b m bs hx hz n l e = not-is e
 first-by true true false b m bs hx hz n l e = not-is e
 first-by true true true b m bs hx hz n l e =
     let v = andDigit 0 b in
-    let h : 48 < b = above b n (eq-or-lt-of-le (hx refl)) in
+    let h : digitZero < b = above b n (eq-or-lt-of-le (hx refl)) in
     let one : 1 ≤ v = omega arith in
     let p : 10 ^ 10 ≤ 10 ^ length bs = pow-le-pow-right (omega arith) l in
     let q : 1 * 10 ^ length bs ≤ v * 10 ^ length bs = mul-le-mul-right (10 ^ length bs) one in
     omega (arith, digits-grow v m bs e, digits-most v m bs e (hz refl), one-mul (10 ^ length bs))
 
-first-long : (b m : ℕ) (bs : List ℕ) → (b ≡ 48 → ⊥) → 10 ≤ length bs → digitsFrom 0 (b ∷ bs) ≡ Is m → ⊥
+first-long : (b m : ℕ) (bs : List ℕ) → (b ≡ digitZero → ⊥) → 10 ≤ length bs → digitsFrom 0 (b ∷ bs) ≡ Is m → ⊥
 unfolding digitsFrom
 first-long b m bs n l e =
-    first-by (leb 48 b) (leb b 57) (leb (andDigit 0 b) 4294967295) b m bs (leb-true 48 b) (leb-true (andDigit 0 b) 4294967295) n l e
+    first-by (leb digitZero b) (leb b digitNine) (leb (andDigit 0 b) largest) b m bs (leb-true digitZero b) (leb-true (andDigit 0 b) largest) n l e
 
 -- a number has at most ten digits
-short-by : (t u w k : Bool) (b m : ℕ) (bs : List ℕ) → (u ≡ false → b ≡ 48 → ⊥) → (w ≡ false → suc (length bs) ≤ 1) → leb (length bs) 9 ≡ k
+short-by : (t u w k : Bool) (b m : ℕ) (bs : List ℕ) → (u ≡ false → b ≡ digitZero → ⊥) → (w ≡ false → suc (length bs) ≤ 1) → leb (length bs) 9 ≡ k
     → if (t || u && w) Not (digitsFrom 0 (b ∷ bs)) ≡ Is m → suc (length bs) ≤ 10
 short-by t u w true b m bs hu hw hk e = omega (arith, leb-true (length bs) 9 hk)
 short-by true u w false b m bs hu hw hk e = absurd (not-is e)
@@ -113,8 +118,8 @@ number-short : (f : List ℕ) (m : ℕ) → numberOf f ≡ Is m → length f ≤
 unfolding numberOf
 number-short [] m e = omega arith
 number-short (b ∷ bs) m e =
-    short-by (eqb (suc (length bs)) 0) (eqb b 48) (ltb 1 (suc (length bs))) (leb (length bs) 9) b m bs
-    (eqb-false b 48) (ltb-false 1 (suc (length bs))) refl e
+    short-by (eqb (suc (length bs)) 0) (eqb b digitZero) (ltb 1 (suc (length bs))) (leb (length bs) 9) b m bs
+    (eqb-false b digitZero) (ltb-false 1 (suc (length bs))) refl e
 
 -- the bytes of the fields that these numbers can have been
 abbrev Within : Numbers → ℕ → Type 0

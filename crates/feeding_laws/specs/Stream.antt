@@ -9,32 +9,34 @@ use lib.Dec.{ltb, leb, eqb}
 use lib.ListN.{length, take, set, length-append, length-set}
 use lib.Seq.{take-suc-set}
 use borrow.Author.Tests.{lt-ltb, le-ltb, ltb-true, ltb-false, leb-true, leb-false, eqb-true, eqb-false, ne-eqb}
-use Rattle.bench_lines.specs.Lines.{cr, lf, onto, linesOf}
-use Rattle.bench_lines.specs.Commands.{commandOf}
-use Rattle.bench_lines.specs.Reading.{noLine, pushed, settled, heldCommand, fed, Stands, andThen, commandsFrom}
-use Rattle.bench_lines.specs.declared.Command.{Command}
-use Rattle.bench_lines.specs.declared.Line.{Line}
-use Rattle.bench_lines.specs.declared.Ended.{Ended}
-use Rattle.bench_lines.specs.declared.Ended.the-variants.{Yes}
-use Rattle.bench_lines.specs.declared.Fed.{Fed}
-use Rattle.bench_lines.proofs.Long.{long-no-call}
-use Rattle.bench_lines.proofs.Steps.{if-t, if-f, withCr, going, settled-cr, settled-not, fed-end, fed-cr, fed-byte, finished-none, finished-some}
+use Rattle.texts.specs.Text.{cr, lf}
+use Rattle.texts.specs.Lines.{onto, linesOf}
+use Rattle.bench_commands.specs.Commands.{commandOf}
+use Rattle.bench_feeding.specs.Reading.{lineBytes, more, noLine, pushed, settled, heldCommand, fed}
+use Rattle.bench_names.specs.declared.Command.{Command}
+use Rattle.bench_feeding.specs.declared.Line.{Line}
+use Rattle.bench_feeding.specs.declared.Ended.{Ended}
+use Rattle.bench_feeding.specs.declared.Ended.the-variants.{Yes}
+use Rattle.bench_feeding.specs.declared.Fed.{Fed}
+use Rattle.bench_feeding.specs.Steps.{if-t, if-f, withCr, going, settled-cr, settled-not, fed-end, fed-cr, fed-byte, finished-none, finished-some}
+use Rattle.feeding_laws.specs.Fed.{Stands, andThen, commandsFrom}
+use Rattle.feeding_laws.specs.Long.{long-no-call}
 
 -- the two ways of `pushed`
 abbrev stored : Line → ℕ → Line
 stored l b = record { bytes = set (l .bytes) (l .count) b; count = l .count + 1; cr = false }
 
 abbrev over : Line → Line
-over l = record { bytes = l .bytes; count = 65; cr = false }
+over l = record { bytes = l .bytes; count = more; cr = false }
 
 module _ (l : Line) (b : ℕ) where
-  pushed-stored : l .count < 64 → pushed l b ≡ stored l b
+  pushed-stored : l .count < lineBytes → pushed l b ≡ stored l b
   unfolding pushed
-  pushed-stored h = if-t _ _ _ (lt-ltb (l .count) 64 h)
+  pushed-stored h = if-t _ _ _ (lt-ltb (l .count) lineBytes h)
 
-  pushed-over : 64 ≤ l .count → pushed l b ≡ over l
+  pushed-over : lineBytes ≤ l .count → pushed l b ≡ over l
   unfolding pushed
-  pushed-over h = if-f _ _ _ (le-ltb (l .count) 64 h)
+  pushed-over h = if-f _ _ _ (le-ltb (l .count) lineBytes h)
 
 pushed-no-cr-by : (t : Bool) (l : Line) (b : ℕ) → (if t (stored l b) (over l)) .cr ≡ false
 pushed-no-cr-by true l b = refl
@@ -42,7 +44,7 @@ pushed-no-cr-by false l b = refl
 
 pushed-no-cr : (l : Line) (b : ℕ) → pushed l b .cr ≡ false
 unfolding pushed
-pushed-no-cr l b = pushed-no-cr-by (ltb (l .count) 64) l b
+pushed-no-cr l b = pushed-no-cr-by (ltb (l .count) lineBytes) l b
 
 stands-none : Stands noLine []
 unfolding noLine
@@ -55,7 +57,7 @@ module _ (l : Line) (seen : List ℕ) (st : Stands l seen) where
   stands-cr : Stands (withCr l) seen
   stands-cr = record { room = st .room; short = st .short; kept = st .kept; long = st .long }
 
-  stands-stored : (b : ℕ) → length seen < 64 → Stands (stored l b) (seen ++ (b ∷ []))
+  stands-stored : (b : ℕ) → length seen < lineBytes → Stands (stored l b) (seen ++ (b ∷ []))
   stands-stored b h =
       let n : l .count ≡ length seen = st .short (omega arith) in
       let m = length-snoc seen b in
@@ -69,44 +71,44 @@ module _ (l : Line) (seen : List ℕ) (st : Stands l seen) where
         long = λ k. absurd (omega arith);
       }
 
-  stands-over : (b : ℕ) → 64 ≤ length seen → Stands (over l) (seen ++ (b ∷ []))
+  stands-over : (b : ℕ) → lineBytes ≤ length seen → Stands (over l) (seen ++ (b ∷ []))
   stands-over b h =
       let m = length-snoc seen b in
       record { room = st .room; short = λ k. absurd (omega arith); kept = λ k. absurd (omega arith); long = λ k. refl }
 
-  full-by : (t : Bool) → leb (length seen) 64 ≡ t → 64 ≤ length seen → 64 ≤ l .count
+  full-by : (t : Bool) → leb (length seen) lineBytes ≡ t → lineBytes ≤ length seen → lineBytes ≤ l .count
   full-by true e h = omega (arith, st .short (leb-true _ _ e))
   full-by false e h = omega (arith, st .long (leb-false _ _ e))
 
-  pushed-by : (b : ℕ) (t : Bool) → ltb (length seen) 64 ≡ t → Stands (pushed l b) (seen ++ (b ∷ []))
+  pushed-by : (b : ℕ) (t : Bool) → ltb (length seen) lineBytes ≡ t → Stands (pushed l b) (seen ++ (b ∷ []))
   pushed-by b true e =
       let h = ltb-true _ _ e in
       subst⁻¹ (λ (m : Line). Stands m (seen ++ (b ∷ []))) (pushed-stored l b (omega (arith, st .short (omega arith)))) (stands-stored b h)
   pushed-by b false e =
       let h = ltb-false _ _ e in
-      subst⁻¹ (λ (m : Line). Stands m (seen ++ (b ∷ []))) (pushed-over l b (full-by (leb (length seen) 64) refl h)) (stands-over b h)
+      subst⁻¹ (λ (m : Line). Stands m (seen ++ (b ∷ []))) (pushed-over l b (full-by (leb (length seen) lineBytes) refl h)) (stands-over b h)
 
   stands-pushed : (b : ℕ) → Stands (pushed l b) (seen ++ (b ∷ []))
-  stands-pushed b = pushed-by b (ltb (length seen) 64) refl
+  stands-pushed b = pushed-by b (ltb (length seen) lineBytes) refl
 
-  held-short : length seen ≤ 64 → heldCommand l ≡ commandOf seen
+  held-short : length seen ≤ lineBytes → heldCommand l ≡ commandOf seen
   unfolding heldCommand
   held-short h =
-      if-f _ _ _ (le-ltb 64 (l .count) (omega (arith, st .short h)))
+      if-f _ _ _ (le-ltb lineBytes (l .count) (omega (arith, st .short h)))
       ∙ ap commandOf (ap (λ (j : ℕ). take j (l .bytes)) (st .short h) ∙ st .kept h)
 
-  held-long : 64 < length seen → heldCommand l ≡ commandOf seen
+  held-long : lineBytes < length seen → heldCommand l ≡ commandOf seen
   unfolding heldCommand
-  held-long h = if-t _ _ _ (lt-ltb 64 (l .count) (omega (arith, st .long h))) ∙ sym (long-no-call seen (omega arith))
+  held-long h = if-t _ _ _ (lt-ltb lineBytes (l .count) (omega (arith, st .long h))) ∙ sym (long-no-call seen (omega arith))
 
-  held-by : (t : Bool) → leb (length seen) 64 ≡ t → heldCommand l ≡ commandOf seen
+  held-by : (t : Bool) → leb (length seen) lineBytes ≡ t → heldCommand l ≡ commandOf seen
   held-by true e = held-short (leb-true _ _ e)
   held-by false e = held-long (leb-false _ _ e)
 
   stands-held : heldCommand l ≡ commandOf seen
-  stands-held = held-by (leb (length seen) 64) refl
+  stands-held = held-by (leb (length seen) lineBytes) refl
 
-some-by : (l : Line) (s : ℕ) (ss : List ℕ) → Stands l (s ∷ ss) → (t : Bool) → leb (suc (length ss)) 64 ≡ t → l .count ≡ 0 → ⊥
+some-by : (l : Line) (s : ℕ) (ss : List ℕ) → Stands l (s ∷ ss) → (t : Bool) → leb (suc (length ss)) lineBytes ≡ t → l .count ≡ 0 → ⊥
 some-by l s ss st true e z = omega (arith, st .short (leb-true _ _ e))
 some-by l s ss st false e z = omega (arith, st .long (leb-false _ _ e))
 
@@ -160,7 +162,7 @@ ends : (l l₁ : Line) (seen : List ℕ) → settled l ≡ l₁ → Stands l₁ 
 unfolding commandsFrom joined
 ends l l₁ [] e st = ap (λ (x : Ended). andThen x []) (finished-none l (ap (λ (m : Line). m .count) e ∙ st .short (omega arith)))
 ends l l₁ (s ∷ ss) e st =
-    ap (λ (x : Ended). andThen x []) (finished-some l (λ z. some-by l₁ s ss st (leb (suc (length ss)) 64) refl (sym (ap (λ (m : Line). m .count) e) ∙ z)))
+    ap (λ (x : Ended). andThen x []) (finished-some l (λ z. some-by l₁ s ss st (leb (suc (length ss)) lineBytes) refl (sym (ap (λ (m : Line). m .count) e) ∙ z)))
     ∙ ap (λ (c : Command). c ∷ []) (ap heldCommand e ∙ stands-held l₁ (s ∷ ss) st)
     ∙ ap (map commandOf) (sym (joined-none s ss))
 

@@ -1,11 +1,11 @@
--- `bench_lines::feed` meets its contract: the three ways of a byte.
+-- `bench_feeding::feed` meets its contract: the three ways of a byte.
 use mathlib.Core.Path.{sym, ap, _∙_}
-use Rattle.bench_lines.proofs.Steps.{withCr, going, fed-end, fed-cr, fed-byte}
-use Rattle.bench_lines.specs.Reading.{pushed}
-use Rattle.bench_lines.specs.declared.Line.{Line}
+use Rattle.bench_feeding.specs.Steps.{withCr, going, fed-end, fed-cr, fed-byte}
+use Rattle.bench_feeding.specs.Reading.{pushed}
+use Rattle.bench_feeding.specs.declared.Line.{Line}
 use borrow.Author.Needs.{needs}
-use Rattle.bench_lines.proofs.feed.Statement.{statement}
-use Rattle.bench_lines.proofs.feed.Tie as tie
+use Rattle.bench_feeding.proofs.feed.Statement.{statement}
+use Rattle.bench_feeding.proofs.feed.Tie as tie
 
 held-requires : tie.Need-held-requires
 held-requires c κs = search needs

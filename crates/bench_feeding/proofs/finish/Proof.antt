@@ -1,12 +1,12 @@
--- `bench_lines::finish` meets its contract: nothing is left, or the last line.
-use Rattle.bench_lines.specs.Reading.{heldCommand}
-use Rattle.bench_lines.specs.declared.Line.{Line}
-use Rattle.bench_lines.specs.declared.Ended.the-variants.{Yes}
+-- `bench_feeding::finish` meets its contract: nothing is left, or the last line.
+use Rattle.bench_feeding.specs.Reading.{heldCommand}
+use Rattle.bench_feeding.specs.declared.Line.{Line}
+use Rattle.bench_feeding.specs.declared.Ended.the-variants.{Yes}
 use mathlib.Core.Path.{sym, ap, _∙_}
-use Rattle.bench_lines.proofs.Steps.{finished-none, finished-some}
+use Rattle.bench_feeding.specs.Steps.{finished-none, finished-some}
 use borrow.Author.Needs.{needs}
-use Rattle.bench_lines.proofs.finish.Statement.{statement}
-use Rattle.bench_lines.proofs.finish.Tie as tie
+use Rattle.bench_feeding.proofs.finish.Statement.{statement}
+use Rattle.bench_feeding.proofs.finish.Tie as tie
 
 settle-requires : tie.Need-settle-requires
 settle-requires c κs = search needs

@@ -1,8 +1,8 @@
--- `bench_lines::no_line` meets its contract: by computation.
+-- `bench_feeding::no_line` meets its contract: by computation.
 use mathlib.Core.Path.{refl}
-use Rattle.bench_lines.specs.Reading.{noLine}
-use Rattle.bench_lines.proofs.no_line.Statement.{statement}
-use Rattle.bench_lines.proofs.no_line.Tie as tie
+use Rattle.bench_feeding.specs.Reading.{noLine}
+use Rattle.bench_feeding.proofs.no_line.Statement.{statement}
+use Rattle.bench_feeding.proofs.no_line.Tie as tie
 
 returns : tie.Need-returns
 unfolding noLine

@@ -1,9 +1,9 @@
--- `bench_lines::push` meets its contract: with room, and without.
+-- `bench_feeding::push` meets its contract: with room, and without.
 use borrow.Author.Tests.{lt-ltb, le-ltb}
-use Rattle.bench_lines.specs.Reading.{pushed}
+use Rattle.bench_feeding.specs.Reading.{lineBytes, pushed}
 use borrow.Author.Needs.{needs}
-use Rattle.bench_lines.proofs.push.Statement.{statement}
-use Rattle.bench_lines.proofs.push.Tie as tie
+use Rattle.bench_feeding.proofs.push.Statement.{statement}
+use Rattle.bench_feeding.proofs.push.Tie as tie
 
 array-write-w : tie.Need-array-write-w
 array-write-w c = search needs
@@ -13,11 +13,11 @@ add-t9 c = search needs
 
 returns : tie.Need-returns
 unfolding pushed
-returns c = rw (lt-ltb _ 64 (c .if1 .taken))
+returns c = rw (lt-ltb _ lineBytes (c .if1 .taken))
 
 returns-2 : tie.Need-returns-2
 unfolding pushed
-returns-2 c = rw (le-ltb _ 64 (c .if1 .left))
+returns-2 c = rw (le-ltb _ lineBytes (c .if1 .left))
 
 pub push-spec : {M : Type 1} → statement M
 push-spec = tie.close (tie.spec array-write-w add-t9 returns returns-2)

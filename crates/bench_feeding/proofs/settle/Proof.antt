@@ -1,9 +1,9 @@
--- `bench_lines::settle` meets its contract: with a CR that came last, and without.
+-- `bench_feeding::settle` meets its contract: with a CR that came last, and without.
 use mathlib.Core.Path.{sym, _∙_}
-use Rattle.bench_lines.proofs.Steps.{settled-cr, settled-not}
+use Rattle.bench_feeding.specs.Steps.{settled-cr, settled-not}
 use borrow.Author.Needs.{needs}
-use Rattle.bench_lines.proofs.settle.Statement.{statement}
-use Rattle.bench_lines.proofs.settle.Tie as tie
+use Rattle.bench_feeding.proofs.settle.Statement.{statement}
+use Rattle.bench_feeding.proofs.settle.Tie as tie
 
 push-requires : tie.Need-push-requires
 push-requires c κs = search needs

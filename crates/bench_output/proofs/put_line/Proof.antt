@@ -1,11 +1,11 @@
--- `bench_lines::put_line` meets its contract: three numbers of at most 20 digits and four bytes fit into 64.
+-- `bench_output::put_line` meets its contract: three numbers of at most 20 digits and four bytes fit into 64.
 use borrow.Author.Needs.{needs}
 use native.Mathlib.Omega.{arith}
 use lib.ListN.{length-set}
-use Rattle.bench_lines.proofs.Decimal.{decimal-length}
-use Rattle.bench_lines.proofs.Written.{line-written}
-use Rattle.bench_lines.proofs.put_line.Statement.{statement}
-use Rattle.bench_lines.proofs.put_line.Tie as tie
+use Rattle.decimals.specs.DecimalLaws.{decimal-length}
+use Rattle.bench_output.proofs.Written.{line-written}
+use Rattle.bench_output.proofs.put_line.Statement.{statement}
+use Rattle.bench_output.proofs.put_line.Tie as tie
 
 put-number-requires : tie.Need-put-number-requires
 put-number-requires c κs = let u = decimal-length (c .before .args .line) in search needs
