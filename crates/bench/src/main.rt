@@ -1,8 +1,8 @@
 // The bench program: a store of 4 pages and 64 log records in memory; lines in, answers out.
 use areas::Answer;
-use bench_lines::Command;
-use bench_lines::Ended;
-use bench_lines::Line;
+use bench_names::Command;
+use bench_feeding::Ended;
+use bench_feeding::Line;
 
 // Where the reading stands: the line so far, and the number of the next one.
 struct Place {
@@ -15,7 +15,7 @@ fn tell(number: u64, a: Answer) {
     let mut buf = [0u8; 64];
     let value = areas::value_of(a);
     let answer = areas::answer_of(a);
-    let n = bench_lines::put_line(&mut buf, number, answer, value);
+    let n = bench_output::put_line(&mut buf, number, answer, value);
     io::write_all(1, &buf[..n]);
 }
 
@@ -54,7 +54,7 @@ fn take_bytes(
     let mut line = place.line;
     let mut number = place.number;
     for i in 0..bytes.len() {
-        let fed = bench_lines::feed(line, bytes[i]);
+        let fed = bench_feeding::feed(line, bytes[i]);
         line = fed.line;
         let ended = fed.ended;
         number = take(stored, copies, received, log, counts, work, number, ended);
@@ -72,7 +72,7 @@ fn take_input(
     work: &mut [u32],
 ) {
     let mut place = Place {
-        line: bench_lines::no_line(),
+        line: bench_feeding::no_line(),
         number: 1,
     };
     // A proved loop ends: it counts its turns down, from a number that no run uses up.
@@ -97,7 +97,7 @@ fn take_input(
             turns -= 1;
         }
     }
-    let last = bench_lines::finish(place.line);
+    let last = bench_feeding::finish(place.line);
     take(
         stored,
         copies,

@@ -10,7 +10,7 @@ use bench_names::Command;
 use decimals::Number;
 
 // The numbers of the fields after a call's name; Bad: one is no number, or there are more than four.
-enum Numbers {
+pub enum Numbers {
     Zero,
     One(u32),
     Two(u32, u32),

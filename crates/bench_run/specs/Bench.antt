@@ -8,11 +8,11 @@ use Rattle.areas.specs.Answers.{answerOf, valueOf}
 use Rattle.areas.specs.Areas.{Areas, Out, refused}
 use Rattle.calls.specs.Formatting.{formatted}
 use Rattle.calls.specs.Calls.{perform, begin, commit, abort, lockRead, lockWrite, read, create, setWord, flush, force, store, empty, pass, step, reopen, restep}
-use Rattle.bench_lines.specs.declared.Command.{Command}
-use Rattle.bench_lines.specs.declared.Command.the-variants.{Begin, Commit, Abort, LockRead, LockWrite, Flush, Read, Create, Set, Store, Force, Empty, Pass, Step, Reopen, Restep, NoCall}
-use Rattle.bench_lines.specs.Lines.{linesOf}
-use Rattle.bench_lines.specs.Commands.{commandOf}
-use Rattle.bench_lines.specs.Output.{outputLine}
+use Rattle.bench_names.specs.declared.Command.{Command}
+use Rattle.bench_names.specs.declared.Command.the-variants.{Begin, Commit, Abort, LockRead, LockWrite, Flush, Read, Create, Set, Store, Force, Empty, Pass, Step, Reopen, Restep, NoCall}
+use Rattle.texts.specs.Lines.{linesOf}
+use Rattle.bench_commands.specs.Commands.{commandOf}
+use Rattle.bench_output.specs.Output.{outputLine}
 
 -- 'It formats P = 4, L = 64'
 abbrev pub benchStore : Areas

@@ -4,7 +4,7 @@ use Prim.Native.Nat.{ℕ, _≤_}
 use mathlib.Core.Path.{_≡_, ap, _∙_}
 use mathlib.Core.List.{List, _++_}
 use lib.ListN.{length, take, drop, replicate, length-append, length-take}
-use Rattle.bench_lines.specs.Output.{outputLine}
+use Rattle.bench_output.specs.Output.{outputLine}
 use Rattle.bench.proofs.tell.Statement.{statement}
 use Rattle.bench.proofs.tell.Tie as tie
 
