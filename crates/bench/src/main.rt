@@ -1,8 +1,8 @@
 // The bench program: a store of 4 pages and 64 log records in memory; lines in, answers out.
 use areas::Answer;
-use bench_names::Command;
 use bench_feeding::Ended;
 use bench_feeding::Line;
+use bench_names::Command;
 
 // Where the reading stands: the line so far, and the number of the next one.
 struct Place {

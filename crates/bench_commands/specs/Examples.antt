@@ -8,7 +8,13 @@ use Rattle.texts.specs.Fields.{fieldsOf}
 use Rattle.decimals.specs.Numbers.{digitsFrom, numberOf}
 use Rattle.bench_names.specs.Names.{callAlone, callOne, callTwo, callFour}
 use Rattle.bench_names.specs.declared.Command.{Command}
-use Rattle.bench_names.specs.declared.Command.the-variants.{Begin, Commit, Abort, LockRead, LockWrite, Flush, Read, Create, Set, Store, Force, Empty, Pass, Step, Reopen, Restep, NoCall}
+use Rattle.bench_names.specs.declared.Command.the-variants.{Transaction, Lock, Object, Stability, Collection, Reopening, NoCall}
+use Rattle.bench_names.specs.declared.TransactionCall.the-variants.{Begin, Commit, Abort}
+use Rattle.bench_names.specs.declared.LockCall.the-variants.{LockRead, LockWrite}
+use Rattle.bench_names.specs.declared.ObjectCall.the-variants.{Flush, Read, Create, Set}
+use Rattle.bench_names.specs.declared.StabilityCall.the-variants.{Store, Force, Empty}
+use Rattle.bench_names.specs.declared.PassCall.the-variants.{Pass, Step}
+use Rattle.bench_names.specs.declared.ReopeningCall.the-variants.{Reopen, Restep}
 use Rattle.bench_commands.specs.Commands.{numbersFrom, commandOf}
 
 abbrev pub Row : Type 0
@@ -20,28 +26,28 @@ row s c = (s, c)
 -- the lines of document 01's bench input, then every other call, then lines that are no call
 pub table : List Row
 table =
-    row "begin,0" (Begin 0)
-    ∷ row "lockw,0,0" (LockWrite 0 0)
-    ∷ row "create,0,2" (Create 0 2)
-    ∷ row "set,0,1,0,2" (Set 0 1 0 2)
-    ∷ row "flush,0,0" (Flush 0 0)
-    ∷ row "commit,0" (Commit 0)
-    ∷ row "begin,1" (Begin 1)
-    ∷ row "lockw,1,0" (LockWrite 1 0)
-    ∷ row "set,1,1,0,0" (Set 1 1 0 0)
-    ∷ row "flush,1,0" (Flush 1 0)
-    ∷ row "commit,1" (Commit 1)
-    ∷ row "pass" Pass
-    ∷ row "step" Step
-    ∷ row "abort,15" (Abort 15)
-    ∷ row "lockr,0,255" (LockRead 0 255)
-    ∷ row "read,0,4096" (Read 0 4096)
-    ∷ row "store,3" (Store 3)
-    ∷ row "force" Force
-    ∷ row "empty" Empty
-    ∷ row "reopen" Reopen
-    ∷ row "restep" Restep
-    ∷ row "begin,4294967295" (Begin 4294967295)
+    row "begin,0" (Transaction (Begin 0))
+    ∷ row "lockw,0,0" (Lock (LockWrite 0 0))
+    ∷ row "create,0,2" (Object (Create 0 2))
+    ∷ row "set,0,1,0,2" (Object (Set 0 1 0 2))
+    ∷ row "flush,0,0" (Object (Flush 0 0))
+    ∷ row "commit,0" (Transaction (Commit 0))
+    ∷ row "begin,1" (Transaction (Begin 1))
+    ∷ row "lockw,1,0" (Lock (LockWrite 1 0))
+    ∷ row "set,1,1,0,0" (Object (Set 1 1 0 0))
+    ∷ row "flush,1,0" (Object (Flush 1 0))
+    ∷ row "commit,1" (Transaction (Commit 1))
+    ∷ row "pass" (Collection Pass)
+    ∷ row "step" (Collection Step)
+    ∷ row "abort,15" (Transaction (Abort 15))
+    ∷ row "lockr,0,255" (Lock (LockRead 0 255))
+    ∷ row "read,0,4096" (Object (Read 0 4096))
+    ∷ row "store,3" (Stability (Store 3))
+    ∷ row "force" (Stability Force)
+    ∷ row "empty" (Stability Empty)
+    ∷ row "reopen" (Reopening Reopen)
+    ∷ row "restep" (Reopening Restep)
+    ∷ row "begin,4294967295" (Transaction (Begin 4294967295))
     ∷ row "begin,4294967296" NoCall
     ∷ row "begin,10000000000" NoCall
     ∷ row "begin,00" NoCall

@@ -2,11 +2,11 @@
 ghost use mathlib.Core.Path.{_≡_};
 ghost use Rattle.texts.specs.Parts.{following};
 ghost use Rattle.bench_commands.specs.Commands.{andNumber, numbersFrom, callOf, commandOf};
+use bench_names::Command;
 use bench_names::call_alone;
 use bench_names::call_four;
 use bench_names::call_one;
 use bench_names::call_two;
-use bench_names::Command;
 use decimals::Number;
 
 // The numbers of the fields after a call's name; Bad: one is no number, or there are more than four.

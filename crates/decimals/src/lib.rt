@@ -12,6 +12,7 @@ const BASE: u64 = 10;
 
 // The digits '0' and '9'.
 const ZERO: u8 = b'0';
+
 const NINE: u8 = b'9';
 
 // The largest number that is read: it has 32 bits.

@@ -46,7 +46,7 @@ use Rattle.decimals.specs.Decimal.{digitsIn, decimal}
 use Rattle.bench_names.specs.Names.{callAlone, callOne, callTwo, callFour}
 use Rattle.bench_commands.specs.Commands.{numbersFrom, commandOf}
 use Rattle.bench_output.specs.Output.{outputLine}
-use Rattle.bench_run.specs.Bench.{pageSent, benchCall, outputFrom}
+use Rattle.bench_run.specs.Bench.{pageSent, transactionCall, lockCall, objectCall, stabilityCall, passCall, reopeningCall, benchCall, outputFrom}
 
 -- two lists of words are the same; two stores are
 unfoldable pub sameWords : List ℕ → List ℕ → Bool
@@ -111,5 +111,5 @@ table =
     ∷ []
 
 pub table-right : allRight table ≡ true
-unfolding allRight right table sameWords sameAreas refusedBy refusedAfter withBit withoutBit mapOf slotsSet over fill copied upTo same-spans all any count sum lowest isRefAt cleared takenSlot freedSlot releasedIn formattedPages refsSound slotZero freeZero pageSound areaSound tabulate rowsOf withRows changesIn changesLeft reserved effect undone undoing lastNaming openIn logSound redone undoneIn recovered recoverable wordSound recordSound recordsSound appended wellFormed readiness joined lengthsFit rowsInRange workInRange countsInRange inRange greyed perform formatted callFormat cut lockReadCheck readLocked callLockRead lockWriteCheck writeLocked callLockWrite readCheck learned callRead bufferAfter createCheck created callCreate setCheck pruned wordSet callSet flushCheck flushed callFlush passCheck unflagged passStarted callPass lowestGrey targetsGreyed scanned marked sweepMap freedMap advanced sweepCheck sweptPage swept stepCheck callStep reopenCheck reopened callReopen restepCheck pageStored reopeningOver callRestep roomBeyond forceCheck callForce storeCheck callStore emptyCheck callEmpty beginCheck begun callBegin endedTables allFlushed commitCheck committed callCommit rolledBack restored abortCheck aborted callAbort same-texts fieldsOf numbersFrom callAlone callOne callTwo callFour commandOf linesOf digitsFrom numberOf digitsIn decimal outputLine pageSent benchCall outputFrom benchOutput
+unfolding allRight right table sameWords sameAreas refusedBy refusedAfter withBit withoutBit mapOf slotsSet over fill copied upTo same-spans all any count sum lowest isRefAt cleared takenSlot freedSlot releasedIn formattedPages refsSound slotZero freeZero pageSound areaSound tabulate rowsOf withRows changesIn changesLeft reserved effect undone undoing lastNaming openIn logSound redone undoneIn recovered recoverable wordSound recordSound recordsSound appended wellFormed readiness joined lengthsFit rowsInRange workInRange countsInRange inRange greyed perform formatted callFormat cut lockReadCheck readLocked callLockRead lockWriteCheck writeLocked callLockWrite readCheck learned callRead bufferAfter createCheck created callCreate setCheck pruned wordSet callSet flushCheck flushed callFlush passCheck unflagged passStarted callPass lowestGrey targetsGreyed scanned marked sweepMap freedMap advanced sweepCheck sweptPage swept stepCheck callStep reopenCheck reopened callReopen restepCheck pageStored reopeningOver callRestep roomBeyond forceCheck callForce storeCheck callStore emptyCheck callEmpty beginCheck begun callBegin endedTables allFlushed commitCheck committed callCommit rolledBack restored abortCheck aborted callAbort same-texts fieldsOf numbersFrom callAlone callOne callTwo callFour commandOf linesOf digitsFrom numberOf digitsIn decimal outputLine pageSent transactionCall lockCall objectCall stabilityCall passCall reopeningCall benchCall outputFrom benchOutput
 table-right = refl

@@ -8,6 +8,7 @@ pub const COMMA: u8 = b',';
 
 // What ends a line: CR, then LF.
 pub const CR: u8 = b'\r';
+
 pub const LF: u8 = b'\n';
 
 // Whether two texts have the same bytes.

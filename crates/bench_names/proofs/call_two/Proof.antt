@@ -1,6 +1,8 @@
 use Rattle.texts.specs.Same.{same}
 use Rattle.bench_names.specs.Names.{lockr, lockw, flush, read, callTwo}
-use Rattle.bench_names.specs.declared.Command.the-variants.{LockRead, LockWrite, Flush, Read}
+use Rattle.bench_names.specs.declared.Command.the-variants.{Lock, Object}
+use Rattle.bench_names.specs.declared.LockCall.the-variants.{LockRead, LockWrite}
+use Rattle.bench_names.specs.declared.ObjectCall.the-variants.{Flush, Read}
 use mathlib.Core.Bool.{cond}
 use mathlib.Core.Path.{ap, _∙_}
 use borrow.Author.Needs.{needs}
@@ -14,10 +16,10 @@ returns c =
     let a = c .before .before .before .before .before .before .before .before .before .before .before .args .a in
     let b = c .before .before .before .before .before .before .before .before .before .before .before .args .b in
     c .either5 .ensures
-    ∙ ap (cond (same n lockr) (LockRead a b)) (c .before .before .either4 .ensures
-    ∙ ap (cond (same n lockw) (LockWrite a b)) (c .before .before .before .before .either3 .ensures
-    ∙ ap (cond (same n flush) (Flush a b)) (c .before .before .before .before .before .before .either2 .ensures
-    ∙ ap (cond (same n read) (Read a b)) (c .before .before .before .before .before .before .before .before .either .ensures))))
+    ∙ ap (cond (same n lockr) (Lock (LockRead a b))) (c .before .before .either4 .ensures
+    ∙ ap (cond (same n lockw) (Lock (LockWrite a b))) (c .before .before .before .before .either3 .ensures
+    ∙ ap (cond (same n flush) (Object (Flush a b))) (c .before .before .before .before .before .before .either2 .ensures
+    ∙ ap (cond (same n read) (Object (Read a b))) (c .before .before .before .before .before .before .before .before .either .ensures))))
 
 pub call-two-spec : {M : Type 1} → statement M
 call-two-spec =

@@ -4,41 +4,21 @@ use native.Mathlib.Omega.{arith}
 use Prim.Native.Nat.{_≤_, _-_}
 use mathlib.Core.Path.{_≡_, refl, ap, _∙_}
 use lib.ListN.{set}
+use Rattle.pages.specs.Geometry.{pageWords}
 use Rattle.words.specs.Spans.{fill}
-use Rattle.bench_calls.specs.Sent.{sentTo, sent-next, sent-whole}
-use Rattle.bench_calls.proofs.page_sent.Statement.{statement}
-use Rattle.bench_calls.proofs.page_sent.Tie as tie
+use Rattle.bench_images.specs.Sent.{sentTo, sent-next, sent-whole}
+use Rattle.bench_images.proofs.page_sent.Statement.{statement}
+use Rattle.bench_images.proofs.page_sent.Tie as tie
 
 abbrev Inv-loop : tie.InvT-loop
-Inv-loop received p image₀ b i₀ image i = (i ≤ 129) × (image ≡ sentTo received p i)
+Inv-loop received p image₀ b i₀ image i = (i ≤ pageWords) × (image ≡ sentTo received p i)
 
 abbrev μ-loop : tie.MeasureT-loop
-μ-loop received p image₀ b i₀ image i = 129 - i
-
-mul-b : tie.Need-mul-b Inv-loop μ-loop
-mul-b c = search needs
+μ-loop received p image₀ b i₀ image i = pageWords - i
 
 loop-holds : tie.Need-loop-holds Inv-loop μ-loop
 unfolding fill
 loop-holds c = (omega arith, refl)
-
-add-word-or-zero : tie.Need-add-word-or-zero Inv-loop μ-loop
-add-word-or-zero c = search needs
-
-word-or-zero-requires : tie.Need-word-or-zero-requires Inv-loop μ-loop
-word-or-zero-requires c κs = search needs
-
-mul-image : tie.Need-mul-image Inv-loop μ-loop
-mul-image c = search needs
-
-array-write-image : tie.Need-array-write-image Inv-loop μ-loop
-array-write-image c = search needs
-
-add-i : tie.Need-add-i Inv-loop μ-loop
-add-i c = search needs
-
-loop-less : tie.Need-loop-less Inv-loop μ-loop
-loop-less c = search needs
 
 loop-again : tie.Need-loop-again Inv-loop μ-loop
 loop-again c = let a = c .before .before .before .before .args in (search needs, ap (set (c .before .before .loop .image) (c .before .before .loop .i)) (c .word-or-zero .ensures) ∙ sent-next (a .received .now) (a .p) _ _ (c .before .before .loop .inv .1))
@@ -52,13 +32,13 @@ page-sent-spec =
     (tie.spec
     Inv-loop
     μ-loop
-    mul-b
+    (λ c. search needs)
     loop-holds
-    add-word-or-zero
-    word-or-zero-requires
-    mul-image
-    array-write-image
-    add-i
-    loop-less
+    (λ c. search needs)
+    (λ c κs. search needs)
+    (λ c. search needs)
+    (λ c. search needs)
+    (λ c. search needs)
+    (λ c. search needs)
     loop-again
     returns)
