@@ -21,7 +21,7 @@ andNumber (Three a b c) (Is d) = Four a b c d
 andNumber (Four a b c d) (Is e) = Bad
 andNumber Bad (Is a) = Bad
 
--- the numbers so far, and those of the fields that follow
+-- "with t, object, field, word": the numbers so far, and those of the fields that follow
 unfoldable pub numbersFrom : Numbers → List (List ℕ) → Numbers
 numbersFrom ns [] = ns
 numbersFrom ns (f ∷ fs) = numbersFrom (andNumber ns (numberOf f)) fs

@@ -21,7 +21,7 @@ lineBytes = 64
 abbrev pub more : ℕ
 more = 65
 
--- nothing is read
+-- "reads calls as unquoted RFC 4180 lines": nothing is read yet
 unfoldable pub noLine : Line
 noLine = record { bytes = replicate lineBytes 0; count = 0; cr = false }
 
@@ -32,15 +32,15 @@ pushed l b =
     (record { bytes = set (l .bytes) (l .count) b; count = l .count + 1; cr = false })
     (record { bytes = l .bytes; count = more; cr = false })
 
--- no LF follows the CR that came last: it belongs to the line
+-- "lines end in CRLF": where no LF follows the CR that came last, it belongs to the line
 unfoldable pub settled : Line → Line
 settled l = if (l .cr) (pushed l cr) l
 
--- the command of the line, which is no call if it has more bytes than are kept
+-- "A line that is no call answers 1.": the command of the line, which is no call if it has more bytes than are kept
 unfoldable pub heldCommand : Line → Command
 heldCommand l = if (ltb lineBytes (l .count)) NoCall (commandOf (take (l .count) (l .bytes)))
 
--- CR and LF end the line; a CR waits for the next byte
+-- "lines end in CRLF": CR and LF end the line; a CR waits for the next byte
 unfoldable pub fed : Line → ℕ → Fed
 fed l b =
     if (l .cr && eqb b lf)
@@ -49,6 +49,6 @@ fed l b =
     (record { line = record { bytes = settled l .bytes; count = settled l .count; cr = true }; ended = No })
     (record { line = pushed (settled l) b; ended = No }))
 
--- the input ends: what is left, if anything, is the last line
+-- "which the last input line may lack": the input ends; what is left, if anything, is the last line
 unfoldable pub finished : Line → Ended
 finished l = if (eqb (settled l .count) 0) No (Yes (heldCommand (settled l)))

@@ -13,7 +13,7 @@ use Rattle.bench_names.specs.declared.StabilityCall.the-variants.{Store,
 use Rattle.bench_names.specs.declared.PassCall.the-variants.{Pass, Step}
 use Rattle.bench_names.specs.declared.ReopeningCall.the-variants.{Reopen, Restep}
 
--- "The calls are `begin`, `commit`, `abort` ..": their names are exact; upper case and spaces are other bytes
+-- "The calls are `begin`, `commit`, `abort` ..": their names, which are exact; upper case and spaces are other bytes
 
 abbrev pub begin : List ℕ
 begin = bytes "begin"

@@ -42,38 +42,41 @@ benchStore = formatted benchPages benchRecords
 unfoldable pub pageSent : Areas → ℕ → List ℕ
 pageSent s p = take pageWords (drop (pageAt p) (s .received) ++ replicate pageWords 0)
 
--- 'The calls are `begin`, `commit`, `abort` with t; `lockr`, `lockw`, `flush` with t, page; `read`, `create` with t, object; `set` with t, object, field,
--- word; `store` with page; `force`, `empty`, `pass`, `step`, `reopen`, `restep` (a reopening step) alone.' They are six families
-
+-- '`begin`, `commit`, `abort` with t'
 unfoldable pub transactionCall : Areas → TransactionCall → Out
 transactionCall s (Begin t) = perform s (begin t)
 transactionCall s (Commit t) = perform s (commit t)
 transactionCall s (Abort t) = perform s (abort t)
 
+-- '`lockr`, `lockw` .. with t, page'
 unfoldable pub lockCall : Areas → LockCall → Out
 lockCall s (LockRead t p) = perform s (lockRead t p)
 lockCall s (LockWrite t p) = perform s (lockWrite t p)
 
+-- '`flush` with t, page; `read`, `create` with t, object; `set` with t, object, field, word'. A read's buffer is eight zeros: 'word 0 for read' is its value
 unfoldable pub objectCall : Areas → ObjectCall → Out
 objectCall s (Flush t p) = perform s (flush t p (pageSent s p))
 objectCall s (Read t o) = perform s (read t o (replicate 8 0))
 objectCall s (Create t o) = perform s (create t o)
 objectCall s (Set t o f v) = perform s (setWord t o f v)
 
+-- '`store` with page; `force`, `empty` .. alone'
 unfoldable pub stabilityCall : Areas → StabilityCall → Out
 stabilityCall s (Store p) = perform s (store p)
 stabilityCall s Force = perform s force
 stabilityCall s Empty = perform s empty
 
+-- '`pass`, `step` .. alone'
 unfoldable pub passCall : Areas → PassCall → Out
 passCall s Pass = perform s pass
 passCall s Step = perform s step
 
+-- '`reopen`, `restep` (a reopening step) alone'
 unfoldable pub reopeningCall : Areas → ReopeningCall → Out
 reopeningCall s Reopen = perform s reopen
 reopeningCall s Restep = perform s restep
 
--- a line's call; 'A line that is no call answers 1.'
+-- a line's call, by its family; 'A line that is no call answers 1.'
 unfoldable pub benchCall : Areas → Command → Out
 benchCall s (Transaction c) = transactionCall s c
 benchCall s (Lock c) = lockCall s c

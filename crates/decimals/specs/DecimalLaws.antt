@@ -1,5 +1,5 @@
 -- Laws of `decimal`, and of what is written one after the other.
-use Prim.Native.Nat.{ℕ, zero, suc, _+_, _/_, _%_, _^_, _<_, _≤_}
+use Prim.Native.Nat.{ℕ, zero, suc, _+_, _-_, _/_, _%_, _^_, _<_, _≤_}
 use mathlib.Core.Path.{_≡_, refl, sym, ap, subst, _∙_}
 use mathlib.Core.Bool.{Bool, true, false, cond as if}
 use mathlib.Core.List.{List, [], _∷_, _++_}
@@ -50,11 +50,11 @@ digits-room (suc k) n h =
 
 pub decimal-one : (n : ℕ) → n < base → decimal n ≡ (digitZero + n) ∷ []
 unfolding decimal
-decimal-one n h = digits-one 19 n h
+decimal-one n h = digits-one (mostDigits - 1) n h
 
 pub decimal-more : (n : ℕ) → base ≤ n → n < 2 ^ 64 → decimal n ≡ decimal (n / base) ++ ((digitZero + n % base) ∷ [])
 unfolding decimal
-decimal-more n h k = digits-many 19 n h ∙ ap (λ (ds : List ℕ). ds ++ ((digitZero + n % base) ∷ [])) (digits-room 18 (n / base) (omega arith))
+decimal-more n h k = digits-many (mostDigits - 1) n h ∙ ap (λ (ds : List ℕ). ds ++ ((digitZero + n % base) ∷ [])) (digits-room (mostDigits - 2) (n / base) (omega arith))
 
 -- a text written after another
 pub sets-append : (l : List ℕ) (i : ℕ) (vs ws : List ℕ) → sets l i (vs ++ ws) ≡ sets (sets l i vs) (i + length vs) ws

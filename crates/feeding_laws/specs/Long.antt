@@ -1,4 +1,4 @@
--- A line of more than 47 bytes is no call: `set` and four numbers of ten digits are the most.
+-- A line longer than `set` with four numbers of ten digits is no call.
 use Prim.Native.Nat.{ℕ, suc, _+_, _-_, _*_, _^_, _<_, _≤_}
 use mathlib.Core.Path.{_≡_, refl, sym, ap, subst, _∙_}
 use mathlib.Core.Logic.{_⊎_, inl, inr}
@@ -24,6 +24,24 @@ use Rattle.bench_names.specs.declared.Command.the-variants.{NoCall}
 use Rattle.bench_commands.specs.Commands.{andNumber, numbersFrom, callOf, callOfFields, commandOf}
 use Rattle.bench_commands.specs.declared.Numbers.{Numbers}
 use Rattle.bench_commands.specs.declared.Numbers.the-variants.{Zero, One, Two, Three, Four, Bad}
+
+-- the most bytes of a number, of a number with its comma, and of a name; those of `set`, the one call with four numbers
+
+abbrev digits : ℕ
+digits = 10
+
+abbrev field : ℕ
+field = digits + 1
+
+abbrev longest : ℕ
+longest = 6
+
+abbrev setBytes : ℕ
+setBytes = 3
+
+-- the most bytes of a call
+abbrev pub callBytes : ℕ
+callBytes = setBytes + 4 * field
 
 -- the bytes of the fields, each with a comma
 total : List (List ℕ) → ℕ
@@ -57,14 +75,14 @@ and-split true b h = (refl, h)
 and-split false b h = absurd (not-both h)
 
 -- digits that follow the value n make at least n with so many zeros
-grow-by : (t : Bool) (n k m : ℕ) (bs : List ℕ) → 10 * n ≤ k → (digitsFrom k bs ≡ Is m → k * 10 ^ length bs ≤ m)
-    → if t (digitsFrom k bs) Not ≡ Is m → n * 10 ^ suc (length bs) ≤ m
+grow-by : (t : Bool) (n k m : ℕ) (bs : List ℕ) → base * n ≤ k → (digitsFrom k bs ≡ Is m → k * base ^ length bs ≤ m)
+    → if t (digitsFrom k bs) Not ≡ Is m → n * base ^ suc (length bs) ≤ m
 grow-by false n k m bs h r e = absurd (not-is e)
 grow-by true n k m bs h r e =
-    let p : n * 10 ^ suc (length bs) ≡ 10 * n * 10 ^ length bs = ap (λ (j : ℕ). n * j) (pow-suc 10 (length bs) ∙ mul-comm (10 ^ length bs) 10) ∙ sym (mul-assoc n 10 (10 ^ length bs)) ∙ ap (λ (j : ℕ). j * 10 ^ length bs) (mul-comm n 10) in
-    rw p (le-trans (mul-le-mul-right (10 ^ length bs) h) (r e))
+    let p : n * base ^ suc (length bs) ≡ base * n * base ^ length bs = ap (λ (j : ℕ). n * j) (pow-suc base (length bs) ∙ mul-comm (base ^ length bs) base) ∙ sym (mul-assoc n base (base ^ length bs)) ∙ ap (λ (j : ℕ). j * base ^ length bs) (mul-comm n base) in
+    rw p (le-trans (mul-le-mul-right (base ^ length bs) h) (r e))
 
-digits-grow : (n m : ℕ) (s : List ℕ) → digitsFrom n s ≡ Is m → n * 10 ^ length s ≤ m
+digits-grow : (n m : ℕ) (s : List ℕ) → digitsFrom n s ≡ Is m → n * base ^ length s ≤ m
 unfolding digitsFrom
 digits-grow n m [] e = let q : n ≡ m = cc in omega arith
 digits-grow n m (b ∷ bs) e = grow-by (isDigit b && leb (andDigit n b) largest) n (andDigit n b) m bs (omega arith) (digits-grow (andDigit n b) m bs) e
@@ -87,7 +105,7 @@ above : (b : ℕ) → (b ≡ digitZero → ⊥) → (digitZero ≡ b) ⊎ (digit
 above b n (inl e) = absurd (n (sym e))
 above b n (inr h) = h
 
-first-by : (x y z : Bool) (b m : ℕ) (bs : List ℕ) → (x ≡ true → digitZero ≤ b) → (z ≡ true → andDigit 0 b ≤ largest) → (b ≡ digitZero → ⊥) → 10 ≤ length bs
+first-by : (x y z : Bool) (b m : ℕ) (bs : List ℕ) → (x ≡ true → digitZero ≤ b) → (z ≡ true → andDigit 0 b ≤ largest) → (b ≡ digitZero → ⊥) → digits ≤ length bs
     → if (x && y && z) (digitsFrom (andDigit 0 b) bs) Not ≡ Is m → ⊥
 first-by false y z b m bs hx hz n l e = not-is e
 first-by true false z b m bs hx hz n l e = not-is e
@@ -96,25 +114,25 @@ first-by true true true b m bs hx hz n l e =
     let v = andDigit 0 b in
     let h : digitZero < b = above b n (eq-or-lt-of-le (hx refl)) in
     let one : 1 ≤ v = omega arith in
-    let p : 10 ^ 10 ≤ 10 ^ length bs = pow-le-pow-right (omega arith) l in
-    let q : 1 * 10 ^ length bs ≤ v * 10 ^ length bs = mul-le-mul-right (10 ^ length bs) one in
-    omega (arith, digits-grow v m bs e, digits-most v m bs e (hz refl), one-mul (10 ^ length bs))
+    let p : base ^ digits ≤ base ^ length bs = pow-le-pow-right (omega arith) l in
+    let q : 1 * base ^ length bs ≤ v * base ^ length bs = mul-le-mul-right (base ^ length bs) one in
+    omega (arith, digits-grow v m bs e, digits-most v m bs e (hz refl), one-mul (base ^ length bs))
 
-first-long : (b m : ℕ) (bs : List ℕ) → (b ≡ digitZero → ⊥) → 10 ≤ length bs → digitsFrom 0 (b ∷ bs) ≡ Is m → ⊥
+first-long : (b m : ℕ) (bs : List ℕ) → (b ≡ digitZero → ⊥) → digits ≤ length bs → digitsFrom 0 (b ∷ bs) ≡ Is m → ⊥
 unfolding digitsFrom
 first-long b m bs n l e =
     first-by (leb digitZero b) (leb b digitNine) (leb (andDigit 0 b) largest) b m bs (leb-true digitZero b) (leb-true (andDigit 0 b) largest) n l e
 
 -- a number has at most ten digits
 short-by : (t u w k : Bool) (b m : ℕ) (bs : List ℕ) → (u ≡ false → b ≡ digitZero → ⊥) → (w ≡ false → suc (length bs) ≤ 1) → leb (length bs) 9 ≡ k
-    → if (t || u && w) Not (digitsFrom 0 (b ∷ bs)) ≡ Is m → suc (length bs) ≤ 10
+    → if (t || u && w) Not (digitsFrom 0 (b ∷ bs)) ≡ Is m → suc (length bs) ≤ digits
 short-by t u w true b m bs hu hw hk e = omega (arith, leb-true (length bs) 9 hk)
 short-by true u w false b m bs hu hw hk e = absurd (not-is e)
 short-by false false w false b m bs hu hw hk e = absurd (first-long b m bs (hu refl) (omega (arith, leb-false (length bs) 9 hk)) e)
 short-by false true true false b m bs hu hw hk e = absurd (not-is e)
 short-by false true false false b m bs hu hw hk e = omega (arith, hw refl)
 
-number-short : (f : List ℕ) (m : ℕ) → numberOf f ≡ Is m → length f ≤ 10
+number-short : (f : List ℕ) (m : ℕ) → numberOf f ≡ Is m → length f ≤ digits
 unfolding numberOf
 number-short [] m e = omega arith
 number-short (b ∷ bs) m e =
@@ -124,10 +142,10 @@ number-short (b ∷ bs) m e =
 -- the bytes of the fields that these numbers can have been
 abbrev Within : Numbers → ℕ → Type 0
 Within Zero n = n ≤ 0
-Within (One a) n = n ≤ 11
-Within (Two a b) n = n ≤ 22
-Within (Three a b c) n = n ≤ 33
-Within (Four a b c d) n = n ≤ 44
+Within (One a) n = n ≤ field
+Within (Two a b) n = n ≤ 2 * field
+Within (Three a b c) n = n ≤ 3 * field
+Within (Four a b c d) n = n ≤ 4 * field
 Within Bad n = Unit {0}
 
 within-number : (ns : Numbers) (n : ℕ) (f : List ℕ) (x : Number) → numberOf f ≡ x → Within ns n → Within (andNumber ns x) (n + (length f + 1))
@@ -147,8 +165,8 @@ within-numbers ns n (f ∷ fs) h =
     (within-numbers (andNumber ns (numberOf f)) (n + (length f + 1)) fs (within-number ns n f (numberOf f) refl h))
 
 -- a name longer than every name
-module _ (name : List ℕ) (h : 6 < length name) where
-  other : (t : List ℕ) → length t ≤ 6 → same name t ≡ false
+module _ (name : List ℕ) (h : longest < length name) where
+  other : (t : List ℕ) → length t ≤ longest → same name t ≡ false
   other t k = same-lengths name t (λ e. omega arith)
 
   alone-long : callAlone name ≡ NoCall
@@ -163,11 +181,11 @@ module _ (name : List ℕ) (h : 6 < length name) where
   unfolding callTwo
   two-long a b = rw (other lockr (omega arith), other lockw (omega arith), other flush (omega arith), other read (omega arith), other create (omega arith))
 
-four-long : (name : List ℕ) (a b c d : ℕ) → 3 < length name → callFour name a b c d ≡ NoCall
+four-long : (name : List ℕ) (a b c d : ℕ) → setBytes < length name → callFour name a b c d ≡ NoCall
 unfolding callFour
 four-long name a b c d h = rw (same-lengths name set (λ e. omega arith))
 
-call-long : (name : List ℕ) (ns : Numbers) (n : ℕ) → Within ns n → 47 < length name + n → callOf name ns ≡ NoCall
+call-long : (name : List ℕ) (ns : Numbers) (n : ℕ) → Within ns n → callBytes < length name + n → callOf name ns ≡ NoCall
 call-long name Zero n w h = alone-long name (omega arith)
 call-long name (One a) n w h = one-long name (omega arith) a
 call-long name (Two a b) n w h = two-long name (omega arith) a b
@@ -175,12 +193,12 @@ call-long name (Three a b c) n w h = refl
 call-long name (Four a b c d) n w h = four-long name a b c d (omega arith)
 call-long name Bad n w h = refl
 
-fields-long : (fs : List (List ℕ)) → 48 < total fs → callOfFields fs ≡ NoCall
+fields-long : (fs : List (List ℕ)) → callBytes + 1 < total fs → callOfFields fs ≡ NoCall
 unfolding total
 fields-long [] h = refl
 fields-long (name ∷ fs) h =
     call-long name (numbersFrom Zero fs) (0 + total fs) (within-numbers Zero 0 fs (omega arith)) (omega arith)
 
-pub long-no-call : (line : List ℕ) → 47 < length line → commandOf line ≡ NoCall
+pub long-no-call : (line : List ℕ) → callBytes < length line → commandOf line ≡ NoCall
 unfolding commandOf
 long-no-call line h = fields-long (fieldsOf line) (omega (arith, total-fields line))

@@ -3,32 +3,8 @@ use borrow.Author.Needs.{needs}
 use Rattle.bench_commands.proofs.and_number.Statement.{statement}
 use Rattle.bench_commands.proofs.and_number.Tie as tie
 
-enum-known-n : tie.Need-enum-known-n
-enum-known-n c = search needs
-
-enum-told : tie.Need-enum-told
-enum-told c = search needs
-
 returns : tie.Need-returns
 returns c = rw (c .enum-told .given .1)
-
-enum-told-2 : tie.Need-enum-told-2
-enum-told-2 c = search needs
-
-enum-known-ns : tie.Need-enum-known-ns
-enum-known-ns c = search needs
-
-enum-known-ns-2 : tie.Need-enum-known-ns-2
-enum-known-ns-2 c = search needs
-
-enum-known-ns-3 : tie.Need-enum-known-ns-3
-enum-known-ns-3 c = search needs
-
-enum-told-3 : tie.Need-enum-told-3
-enum-told-3 c = search needs
-
-enum-told-4 : tie.Need-enum-told-4
-enum-told-4 c = search needs
 
 returns-2 : tie.Need-returns-2
 returns-2 c = rw (c .enum-told2 .given .1, c .before .before .before .n .given .1)
@@ -52,15 +28,15 @@ pub and-number-spec : {M : Type 1} → statement M
 and-number-spec =
     tie.close
     (tie.spec
-    enum-known-n
-    enum-told
+    (λ c. search needs)
+    (λ c. search needs)
     returns
-    enum-told-2
-    enum-known-ns
-    enum-known-ns-2
-    enum-known-ns-3
-    enum-told-3
-    enum-told-4
+    (λ c. search needs)
+    (λ c. search needs)
+    (λ c. search needs)
+    (λ c. search needs)
+    (λ c. search needs)
+    (λ c. search needs)
     returns-2
     returns-3
     returns-4

@@ -5,36 +5,6 @@ use borrow.Author.Needs.{needs}
 use Rattle.bench_commands.proofs.call_of.Statement.{statement}
 use Rattle.bench_commands.proofs.call_of.Tie as tie
 
-enum-told : tie.Need-enum-told
-enum-told c = search needs
-
-call-alone-requires : tie.Need-call-alone-requires
-call-alone-requires c κs = search needs
-
-enum-known-ns : tie.Need-enum-known-ns
-enum-known-ns c = search needs
-
-call-one-requires : tie.Need-call-one-requires
-call-one-requires c κs = search needs
-
-enum-known-ns-2 : tie.Need-enum-known-ns-2
-enum-known-ns-2 c = search needs
-
-call-two-requires : tie.Need-call-two-requires
-call-two-requires c κs = search needs
-
-enum-told-2 : tie.Need-enum-told-2
-enum-told-2 c = search needs
-
-enum-known-ns-3 : tie.Need-enum-known-ns-3
-enum-known-ns-3 c = search needs
-
-call-four-requires : tie.Need-call-four-requires
-call-four-requires c κs = search needs
-
-enum-told-3 : tie.Need-enum-told-3
-enum-told-3 c = search needs
-
 returns : tie.Need-returns
 returns c = c .call-alone .ensures ∙ ap (callOf _) (sym (c .before .enum-told .given .1))
 
@@ -57,16 +27,16 @@ pub call-of-spec : {M : Type 1} → statement M
 call-of-spec =
     tie.close
     (tie.spec
-    enum-told
-    call-alone-requires
-    enum-known-ns
-    call-one-requires
-    enum-known-ns-2
-    call-two-requires
-    enum-told-2
-    enum-known-ns-3
-    call-four-requires
-    enum-told-3
+    (λ c. search needs)
+    (λ c κs. search needs)
+    (λ c. search needs)
+    (λ c κs. search needs)
+    (λ c. search needs)
+    (λ c κs. search needs)
+    (λ c. search needs)
+    (λ c. search needs)
+    (λ c κs. search needs)
+    (λ c. search needs)
     returns
     returns-2
     returns-3

@@ -10,29 +10,17 @@ use borrow.Author.Needs.{needs}
 use Rattle.bench_commands.proofs.command_of.Statement.{statement}
 use Rattle.bench_commands.proofs.command_of.Tie as tie
 
-field-len-requires : tie.Need-field-len-requires
-field-len-requires c κs = search needs
-
 sub-numbers-of : tie.Need-sub-numbers-of
 sub-numbers-of c = let h = length-le (c .before .before .args .line .now) in omega (arith, c .field-len .ensures)
 
 part-numbers-of-start : tie.Need-part-numbers-of-start
 part-numbers-of-start c = let h = length-le (c .before .before .args .line .now) in omega (arith, c .field-len .ensures)
 
-part-numbers-of-end : tie.Need-part-numbers-of-end
-part-numbers-of-end c = search needs
-
-numbers-of-requires : tie.Need-numbers-of-requires
-numbers-of-requires c κs = search needs
-
 slice-aggregate-call-of : tie.Need-slice-aggregate-call-of
 slice-aggregate-call-of c =
     let s = c .before .before .before .before .before .args .line .now in
     let h : c .before .before .before .field-len .result ≤ length s = omega (arith, length-le s, c .before .before .before .field-len .ensures) in
     sym (length-take-le _ s h)
-
-call-of-requires : tie.Need-call-of-requires
-call-of-requires c κs = search needs
 
 returns : tie.Need-returns
 returns c = c .call-of .ensures ∙ command-parts (c .before .before .before .before .before .before .args .line .now) (c .before .before .before .before .field-len .result) (c .before .before .numbers-of .result) (c .before .before .before .before .field-len .ensures) (c .before .before .numbers-of .ensures)
@@ -41,11 +29,11 @@ pub command-of-spec : {M : Type 1} → statement M
 command-of-spec =
     tie.close
     (tie.spec
-    field-len-requires
+    (λ c κs. search needs)
     sub-numbers-of
     part-numbers-of-start
-    part-numbers-of-end
-    numbers-of-requires
+    (λ c. search needs)
+    (λ c κs. search needs)
     slice-aggregate-call-of
-    call-of-requires
+    (λ c κs. search needs)
     returns)

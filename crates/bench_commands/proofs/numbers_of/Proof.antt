@@ -23,41 +23,11 @@ abbrev μ-loop : tie.MeasureT-loop
 loop-holds : tie.Need-loop-holds Inv-loop μ-loop
 loop-holds c = (omega arith, refl)
 
-add-a : tie.Need-add-a Inv-loop μ-loop
-add-a c = search needs
-
-sub-field-len : tie.Need-sub-field-len Inv-loop μ-loop
-sub-field-len c = search needs
-
-part-field-len-start : tie.Need-part-field-len-start Inv-loop μ-loop
-part-field-len-start c = search needs
-
-part-field-len-end : tie.Need-part-field-len-end Inv-loop μ-loop
-part-field-len-end c = search needs
-
-field-len-requires : tie.Need-field-len-requires Inv-loop μ-loop
-field-len-requires c κs = search needs
-
 add-e : tie.Need-add-e Inv-loop μ-loop
 add-e c = let h = field-ends (c .before .before .before .before .before .args .s .now) (c .before .before .before .loop .e + 1) (c .field-len .result) (search needs) (c .field-len .ensures) in search needs
 
-sub-number-of : tie.Need-sub-number-of Inv-loop μ-loop
-sub-number-of c = search needs
-
-part-number-of-start : tie.Need-part-number-of-start Inv-loop μ-loop
-part-number-of-start c = search needs
-
 part-number-of-end : tie.Need-part-number-of-end Inv-loop μ-loop
 part-number-of-end c = let h = field-ends (c .before .before .before .before .before .args .s .now) (c .before .before .before .loop .e + 1) (c .field-len .result) (search needs) (c .field-len .ensures) in search needs
-
-number-of-requires : tie.Need-number-of-requires Inv-loop μ-loop
-number-of-requires c κs = search needs
-
-and-number-requires : tie.Need-and-number-requires Inv-loop μ-loop
-and-number-requires c κs = search needs
-
-loop-less : tie.Need-loop-less Inv-loop μ-loop
-loop-less c = search needs
 
 loop-again : tie.Need-loop-again Inv-loop μ-loop
 loop-again c =
@@ -81,17 +51,17 @@ numbers-of-spec =
     Inv-loop
     μ-loop
     loop-holds
-    add-a
-    sub-field-len
-    part-field-len-start
-    part-field-len-end
-    field-len-requires
+    (λ c. search needs)
+    (λ c. search needs)
+    (λ c. search needs)
+    (λ c. search needs)
+    (λ c κs. search needs)
     add-e
-    sub-number-of
-    part-number-of-start
+    (λ c. search needs)
+    (λ c. search needs)
     part-number-of-end
-    number-of-requires
-    and-number-requires
-    loop-less
+    (λ c κs. search needs)
+    (λ c κs. search needs)
+    (λ c. search needs)
     loop-again
     returns)

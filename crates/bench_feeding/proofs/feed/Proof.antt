@@ -7,23 +7,11 @@ use borrow.Author.Needs.{needs}
 use Rattle.bench_feeding.proofs.feed.Statement.{statement}
 use Rattle.bench_feeding.proofs.feed.Tie as tie
 
-held-requires : tie.Need-held-requires
-held-requires c κs = search needs
-
-no-line-requires : tie.Need-no-line-requires
-no-line-requires c κs = search needs
-
 returns : tie.Need-returns
 returns c = (cc) ∙ sym (fed-end _ _ (c .before .before .if1 .taken))
 
-settle-requires : tie.Need-settle-requires
-settle-requires c κs = search needs
-
 returns-2 : tie.Need-returns-2
 returns-2 c = ap (λ (l : Line). going (withCr l)) (c .before .before .settle .ensures) ∙ sym (fed-cr _ _ (c .before .before .before .if1 .left) (c .before .if2 .taken))
-
-push-requires : tie.Need-push-requires
-push-requires c κs = search needs
 
 returns-3 : tie.Need-returns-3
 returns-3 c = ap going (c .push .ensures ∙ ap (λ (l : Line). pushed l (c .before .before .before .before .args .b)) (c .before .before .settle .ensures)) ∙ sym (fed-byte _ _ (c .before .before .before .if1 .left) (c .before .if2 .left))
@@ -32,10 +20,10 @@ pub feed-spec : {M : Type 1} → statement M
 feed-spec =
     tie.close
     (tie.spec
-    held-requires
-    no-line-requires
+    (λ c κs. search needs)
+    (λ c κs. search needs)
     returns
-    settle-requires
+    (λ c κs. search needs)
     returns-2
-    push-requires
+    (λ c κs. search needs)
     returns-3)

@@ -8,17 +8,11 @@ use borrow.Author.Needs.{needs}
 use Rattle.bench_feeding.proofs.finish.Statement.{statement}
 use Rattle.bench_feeding.proofs.finish.Tie as tie
 
-settle-requires : tie.Need-settle-requires
-settle-requires c κs = search needs
-
 returns : tie.Need-returns
 returns c = sym (finished-none _ (ap (λ (l : Line). l .count) (sym (c .before .before .settle .ensures)) ∙ c .if1 .taken))
-
-held-requires : tie.Need-held-requires
-held-requires c κs = search needs
 
 returns-2 : tie.Need-returns-2
 returns-2 c = ap Yes (c .held .ensures ∙ ap heldCommand (c .before .before .before .settle .ensures)) ∙ sym (finished-some _ (λ z. c .before .if1 .left (ap (λ (l : Line). l .count) (c .before .before .before .settle .ensures) ∙ z)))
 
 pub finish-spec : {M : Type 1} → statement M
-finish-spec = tie.close (tie.spec settle-requires returns held-requires returns-2)
+finish-spec = tie.close (tie.spec (λ c κs. search needs) returns (λ c κs. search needs) returns-2)

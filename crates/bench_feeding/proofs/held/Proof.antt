@@ -20,9 +20,6 @@ array-share-prefix-w c = let n = sym (length-map (c .before .before .args .line 
 slice-aggregate-command-of : tie.Need-slice-aggregate-command-of
 slice-aggregate-command-of c = let n = sym (length-map (c .before .before .before .args .line .bytes) (λ v. v)) ∙ c .before .before .before .good .0 .1 .1 .0 .1 .0 .1 in let h : c .before .before .before .args .line .count ≤ length (c .before .before .before .args .line .bytes) = omega arith in sym (length-take-le _ _ h)
 
-command-of-requires : tie.Need-command-of-requires
-command-of-requires c κs = search needs
-
 returns-2 : tie.Need-returns-2
 unfolding heldCommand
 returns-2 c = rw (le-ltb lineBytes _ (c .before .before .before .if1 .left)) (c .command-of .ensures)
@@ -34,5 +31,5 @@ held-spec =
     returns
     array-share-prefix-w
     slice-aggregate-command-of
-    command-of-requires
+    (λ c κs. search needs)
     returns-2)

@@ -5,12 +5,6 @@ use borrow.Author.Needs.{needs}
 use Rattle.bench_feeding.proofs.push.Statement.{statement}
 use Rattle.bench_feeding.proofs.push.Tie as tie
 
-array-write-w : tie.Need-array-write-w
-array-write-w c = search needs
-
-add-t9 : tie.Need-add-t9
-add-t9 c = search needs
-
 returns : tie.Need-returns
 unfolding pushed
 returns c = rw (lt-ltb _ lineBytes (c .if1 .taken))
@@ -20,4 +14,4 @@ unfolding pushed
 returns-2 c = rw (le-ltb _ lineBytes (c .if1 .left))
 
 pub push-spec : {M : Type 1} → statement M
-push-spec = tie.close (tie.spec array-write-w add-t9 returns returns-2)
+push-spec = tie.close (tie.spec (λ c. search needs) (λ c. search needs) returns returns-2)

@@ -5,9 +5,6 @@ use borrow.Author.Needs.{needs}
 use Rattle.bench_feeding.proofs.settle.Statement.{statement}
 use Rattle.bench_feeding.proofs.settle.Tie as tie
 
-push-requires : tie.Need-push-requires
-push-requires c κs = search needs
-
 returns : tie.Need-returns
 returns c = c .push .ensures ∙ sym (settled-cr _ (c .before .if1 .taken))
 
@@ -15,4 +12,4 @@ returns-2 : tie.Need-returns-2
 returns-2 c = sym (settled-not _ (c .if1 .left))
 
 pub settle-spec : {M : Type 1} → statement M
-settle-spec = tie.close (tie.spec push-requires returns returns-2)
+settle-spec = tie.close (tie.spec (λ c κs. search needs) returns returns-2)

@@ -10,35 +10,11 @@ use Rattle.bench_output.proofs.put_line.Tie as tie
 put-number-requires : tie.Need-put-number-requires
 put-number-requires c κs = let u = decimal-length (c .before .args .line) in search needs
 
-element-write-buf : tie.Need-element-write-buf
-element-write-buf c = search needs
-
-add-put-number : tie.Need-add-put-number
-add-put-number c = search needs
-
 put-number-requires-2 : tie.Need-put-number-requires-2
 put-number-requires-2 c κs = let u = decimal-length (c .before .before .before .args .answer) in simp length-set (omega (arith, c .before .put-number .kept .0))
 
-element-write-buf-2 : tie.Need-element-write-buf-2
-element-write-buf-2 c = search needs
-
-add-put-number-2 : tie.Need-add-put-number-2
-add-put-number-2 c = search needs
-
 put-number-requires-3 : tie.Need-put-number-requires-3
 put-number-requires-3 c κs = let u = decimal-length (c .before .before .before .before .before .args .value) in simp length-set (omega (arith, c .before .put-number2 .kept .0, c .before .before .before .put-number .kept .0))
-
-element-write-buf-3 : tie.Need-element-write-buf-3
-element-write-buf-3 c = search needs
-
-add-buf : tie.Need-add-buf
-add-buf c = search needs
-
-element-write-buf-4 : tie.Need-element-write-buf-4
-element-write-buf-4 c = search needs
-
-add-result : tie.Need-add-result
-add-result c = search needs
 
 returns : tie.Need-returns
 returns c =
@@ -49,14 +25,14 @@ put-line-spec =
     tie.close
     (tie.spec
     put-number-requires
-    element-write-buf
-    add-put-number
+    (λ c. search needs)
+    (λ c. search needs)
     put-number-requires-2
-    element-write-buf-2
-    add-put-number-2
+    (λ c. search needs)
+    (λ c. search needs)
     put-number-requires-3
-    element-write-buf-3
-    add-buf
-    element-write-buf-4
-    add-result
+    (λ c. search needs)
+    (λ c. search needs)
+    (λ c. search needs)
+    (λ c. search needs)
     returns)

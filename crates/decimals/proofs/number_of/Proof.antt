@@ -20,17 +20,11 @@ abbrev μ-loop : tie.MeasureT-loop
 returns : tie.Need-returns Inv-loop μ-loop
 returns c = number-empty _ (c .if1 .taken)
 
-shared-slice-read-if2 : tie.Need-shared-slice-read-if2 Inv-loop μ-loop
-shared-slice-read-if2 c = search needs
-
 returns-2 : tie.Need-returns-2 Inv-loop μ-loop
 returns-2 c = number-leads _ (c .before .before .if1 .left) (c .if2 .taken)
 
 loop-holds : tie.Need-loop-holds Inv-loop μ-loop
 loop-holds c = (omega arith, omega arith, number-starts _ (c .before .before .if1 .left) (c .if2 .left))
-
-shared-slice-read-b : tie.Need-shared-slice-read-b Inv-loop μ-loop
-shared-slice-read-b c = search needs
 
 returns-3 : tie.Need-returns-3 Inv-loop μ-loop
 returns-3 c = sym (at-byte (digitsFrom (c .before .before .before .loop .n)) (c .before .before .before .before .before .before .before .args .s .now) (c .before .before .before .loop .i) (search needs) ∙ digits-low _ _ _ (c .if3 .taken)) ∙ c .before .before .before .loop .inv .2
@@ -38,29 +32,11 @@ returns-3 c = sym (at-byte (digitsFrom (c .before .before .before .loop .n)) (c 
 returns-4 : tie.Need-returns-4 Inv-loop μ-loop
 returns-4 c = sym (at-byte (digitsFrom (c .before .before .before .before .loop .n)) (c .before .before .before .before .before .before .before .before .args .s .now) (c .before .before .before .before .loop .i) (search needs) ∙ digits-high _ _ _ (c .if4 .taken)) ∙ c .before .before .before .before .loop .inv .2
 
-mul-n : tie.Need-mul-n Inv-loop μ-loop
-mul-n c = search needs
-
-cast-n : tie.Need-cast-n Inv-loop μ-loop
-cast-n c = search needs
-
-add-n : tie.Need-add-n Inv-loop μ-loop
-add-n c = search needs
-
 returns-5 : tie.Need-returns-5 Inv-loop μ-loop
 returns-5 c = sym (at-byte (digitsFrom (c .before .before .before .before .before .loop .n)) (c .before .before .before .before .before .before .before .before .before .args .s .now) (c .before .before .before .before .before .loop .i) (search needs) ∙ digits-over _ _ _ (c .if5 .taken)) ∙ c .before .before .before .before .before .loop .inv .2
 
-add-i : tie.Need-add-i Inv-loop μ-loop
-add-i c = search needs
-
-loop-less : tie.Need-loop-less Inv-loop μ-loop
-loop-less c = search needs
-
 loop-again : tie.Need-loop-again Inv-loop μ-loop
 loop-again c = (omega arith, omega arith, sym (at-byte (digitsFrom (c .before .before .before .before .before .loop .n)) (c .before .before .before .before .before .before .before .before .before .args .s .now) (c .before .before .before .before .before .loop .i) (search needs) ∙ digits-more _ _ _ (c .before .before .if3 .left) (c .before .if4 .left) (c .if5 .left)) ∙ c .before .before .before .before .before .loop .inv .2)
-
-cast-t17 : tie.Need-cast-t17 Inv-loop μ-loop
-cast-t17 c = search needs
 
 returns-6 : tie.Need-returns-6 Inv-loop μ-loop
 returns-6 c = sym (at-end (digitsFrom (c .before .loop .n)) (c .before .before .before .before .before .args .s .now) (c .before .loop .i) (search needs) ∙ digits-end _) ∙ c .before .loop .inv .2
@@ -72,18 +48,18 @@ number-of-spec =
     Inv-loop
     μ-loop
     returns
-    shared-slice-read-if2
+    (λ c. search needs)
     returns-2
     loop-holds
-    shared-slice-read-b
+    (λ c. search needs)
     returns-3
     returns-4
-    mul-n
-    cast-n
-    add-n
+    (λ c. search needs)
+    (λ c. search needs)
+    (λ c. search needs)
     returns-5
-    add-i
-    loop-less
+    (λ c. search needs)
+    (λ c. search needs)
     loop-again
-    cast-t17
+    (λ c. search needs)
     returns-6)

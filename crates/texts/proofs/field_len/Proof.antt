@@ -16,20 +16,8 @@ Inv-loop s i₀ i = (i ≤ length s) × (i + fieldLength (drop i s) ≡ fieldLen
 abbrev μ-loop : tie.MeasureT-loop
 μ-loop s i₀ i = length s - i
 
-loop-holds : tie.Need-loop-holds Inv-loop μ-loop
-loop-holds c = search needs
-
-shared-slice-read-if1 : tie.Need-shared-slice-read-if1 Inv-loop μ-loop
-shared-slice-read-if1 c = search needs
-
 returns : tie.Need-returns Inv-loop μ-loop
 returns c = omega (arith, at-byte fieldLength (c .before .before .before .before .args .s .now) (c .before .before .before .loop .i) (search needs) ∙ length-stop _ _ (c .if1 .taken))
-
-add-i : tie.Need-add-i Inv-loop μ-loop
-add-i c = search needs
-
-loop-less : tie.Need-loop-less Inv-loop μ-loop
-loop-less c = search needs
 
 loop-again : tie.Need-loop-again Inv-loop μ-loop
 loop-again c = (omega arith, omega (arith, at-byte fieldLength (c .before .before .before .before .args .s .now) (c .before .before .before .loop .i) (search needs) ∙ length-more _ _ (c .if1 .left)))
@@ -43,10 +31,10 @@ field-len-spec =
     (tie.spec
     Inv-loop
     μ-loop
-    loop-holds
-    shared-slice-read-if1
+    (λ c. search needs)
+    (λ c. search needs)
     returns
-    add-i
-    loop-less
+    (λ c. search needs)
+    (λ c. search needs)
     loop-again
     returns-2)

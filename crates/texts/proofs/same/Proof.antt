@@ -22,20 +22,8 @@ returns c = sym (same-lengths _ _ (c .if1 .taken))
 loop-holds : tie.Need-loop-holds Inv-loop μ-loop
 loop-holds c = (omega arith, refl)
 
-shared-slice-read-if2 : tie.Need-shared-slice-read-if2 Inv-loop μ-loop
-shared-slice-read-if2 c = search needs
-
-shared-slice-read-if2-2 : tie.Need-shared-slice-read-if2-2 Inv-loop μ-loop
-shared-slice-read-if2-2 c = search needs
-
 returns-2 : tie.Need-returns-2 Inv-loop μ-loop
 returns-2 c = let a = c .before .before .before .before .before .before .args .a .now in let b = c .before .before .before .before .before .before .args .b .now in let i = c .before .before .before .before .loop .i in sym (same-stop _ _ _ _ (c .if2 .taken)) ∙ sym (at-both same a b i (search needs) (search needs)) ∙ c .before .before .before .before .loop .inv .1
-
-add-i : tie.Need-add-i Inv-loop μ-loop
-add-i c = search needs
-
-loop-less : tie.Need-loop-less Inv-loop μ-loop
-loop-less c = search needs
 
 loop-again : tie.Need-loop-again Inv-loop μ-loop
 loop-again c = let a = c .before .before .before .before .before .before .args .a .now in let b = c .before .before .before .before .before .before .args .b .now in let i = c .before .before .before .before .loop .i in (omega arith, sym (same-more _ _ _ _ (c .if2 .left)) ∙ sym (at-both same a b i (search needs) (search needs)) ∙ c .before .before .before .before .loop .inv .1)
@@ -51,10 +39,10 @@ same-spec =
     μ-loop
     returns
     loop-holds
-    shared-slice-read-if2
-    shared-slice-read-if2-2
+    (λ c. search needs)
+    (λ c. search needs)
     returns-2
-    add-i
-    loop-less
+    (λ c. search needs)
+    (λ c. search needs)
     loop-again
     returns-3)
