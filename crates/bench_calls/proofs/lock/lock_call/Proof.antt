@@ -1,52 +1,27 @@
+use mathlib.Core.Path.{sym, ap, _∙_}
+use Rattle.calls.specs.Calls.{perform}
+use Rattle.bench_run.specs.Bench.{lockCall}
 use borrow.Author.Needs.{needs}
 use Rattle.bench_calls.proofs.lock.lock_call.Statement.{statement}
 use Rattle.bench_calls.proofs.lock.lock_call.Tie as tie
-use Rattle.bench_calls.proofs.lock.lock_call.Reads as reads
-use Rattle.bench_calls.proofs.lock.lock_call.Lts as lts
-use Rattle.locks.proofs.lock_read.Reads as lock-read-reads
-use Rattle.locks.proofs.lock_write.Reads as lock-write-reads
 
--- src/lock.rt:21:28
-enum-known-c : tie.Need-enum-known-c
-enum-known-c c = search needs
-
--- src/lock.rt:21:37
-lock-read-requires : tie.Need-lock-read-requires
-lock-read-requires c κs = search needs
-
--- src/lock.rt:31:29
-enum-known-c-2 : tie.Need-enum-known-c-2
-enum-known-c-2 c = search needs
-
--- src/lock.rt:31:38
-lock-write-requires : tie.Need-lock-write-requires
-lock-write-requires c κs = search needs
-
--- src/lock.rt:9:1
-same-length : tie.Need-same-length
-same-length c = search needs
-
--- src/lock.rt:9:1
 returns : tie.Need-returns
-returns c = ?
+unfolding lockCall perform
+returns c = c .before .before .lock-read .ensures ∙ ap (lockCall _) (sym (c .before .before .before .before .before .c .given .1))
 
--- src/lock.rt:9:1
-same-length-2 : tie.Need-same-length-2
-same-length-2 c = search needs
-
--- src/lock.rt:9:1
 returns-2 : tie.Need-returns-2
-returns-2 c = ?
+unfolding lockCall perform
+returns-2 c = c .before .before .lock-write .ensures ∙ ap (lockCall _) (sym (c .before .before .before .before .before .c2 .given .1))
 
 pub lock-call-spec : {M : Type 1} → statement M
 lock-call-spec =
     tie.close
     (tie.spec
-    enum-known-c
-    lock-read-requires
-    enum-known-c-2
-    lock-write-requires
-    same-length
+    (λ c. search needs)
+    (λ c κs. search needs)
+    (λ c. search needs)
+    (λ c κs. search needs)
+    (λ c. search needs)
     returns
-    same-length-2
+    (λ c. search needs)
     returns-2)
