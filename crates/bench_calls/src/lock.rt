@@ -4,6 +4,8 @@ ghost use Rattle.areas.specs.Areas.{areas, out};
 ghost use Rattle.bench_run.specs.Bench.{lockCall};
 use areas::Answer;
 use bench_names::LockCall;
+use locks::lock_read;
+use locks::lock_write;
 
 // Does a call for a lock.
 pub fn lock_call(
@@ -18,25 +20,7 @@ pub fn lock_call(
     ensures { λ r. ⌜ out r (now (stored .exit)) (now (copies .exit)) (now (received .exit)) (now (log .exit)) (now (counts .exit)) (now (work .exit)) ≡ lockCall (areas (now (stored .entry)) (now (copies .entry)) (now (received .entry)) (now (log .entry)) (now (counts .entry)) (now (work .entry))) c ⌝ }
 {
     match c {
-        LockCall::LockRead(t, p) => locks::lock_read(
-            stored,
-            copies,
-            received,
-            log,
-            counts,
-            work,
-            t,
-            p,
-        ),
-        LockCall::LockWrite(t, p) => locks::lock_write(
-            stored,
-            copies,
-            received,
-            log,
-            counts,
-            work,
-            t,
-            p,
-        ),
+        LockCall::LockRead(t, p) => lock_read(stored, copies, received, log, counts, work, t, p),
+        LockCall::LockWrite(t, p) => lock_write(stored, copies, received, log, counts, work, t, p),
     }
 }

@@ -4,6 +4,9 @@ ghost use Rattle.areas.specs.Areas.{areas, out};
 ghost use Rattle.bench_run.specs.Bench.{stabilityCall};
 use areas::Answer;
 use bench_names::StabilityCall;
+use stability::empty_log;
+use stability::force;
+use stability::store_page;
 
 // Does a call that makes something stable.
 pub fn stability_call(
@@ -18,16 +21,8 @@ pub fn stability_call(
     ensures { λ r. ⌜ out r (now (stored .exit)) (now (copies .exit)) (now (received .exit)) (now (log .exit)) (now (counts .exit)) (now (work .exit)) ≡ stabilityCall (areas (now (stored .entry)) (now (copies .entry)) (now (received .entry)) (now (log .entry)) (now (counts .entry)) (now (work .entry))) c ⌝ }
 {
     match c {
-        StabilityCall::Store(p) => stability::store_page(
-            stored,
-            copies,
-            received,
-            log,
-            counts,
-            work,
-            p,
-        ),
-        StabilityCall::Force => stability::force(stored, copies, received, log, counts, work),
-        StabilityCall::Empty => stability::empty_log(stored, copies, received, log, counts, work),
+        StabilityCall::Store(p) => store_page(stored, copies, received, log, counts, work, p),
+        StabilityCall::Force => force(stored, copies, received, log, counts, work),
+        StabilityCall::Empty => empty_log(stored, copies, received, log, counts, work),
     }
 }

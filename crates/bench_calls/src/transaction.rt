@@ -4,6 +4,8 @@ ghost use Rattle.areas.specs.Areas.{areas, out};
 ghost use Rattle.bench_run.specs.Bench.{transactionCall};
 use areas::Answer;
 use bench_names::TransactionCall;
+use transactions::begin;
+use transactions::commit;
 
 // Does a call of a transaction.
 pub fn transaction_call(
@@ -18,24 +20,8 @@ pub fn transaction_call(
     ensures { λ r. ⌜ out r (now (stored .exit)) (now (copies .exit)) (now (received .exit)) (now (log .exit)) (now (counts .exit)) (now (work .exit)) ≡ transactionCall (areas (now (stored .entry)) (now (copies .entry)) (now (received .entry)) (now (log .entry)) (now (counts .entry)) (now (work .entry))) c ⌝ }
 {
     match c {
-        TransactionCall::Begin(t) => transactions::begin(
-            stored,
-            copies,
-            received,
-            log,
-            counts,
-            work,
-            t,
-        ),
-        TransactionCall::Commit(t) => transactions::commit(
-            stored,
-            copies,
-            received,
-            log,
-            counts,
-            work,
-            t,
-        ),
+        TransactionCall::Begin(t) => begin(stored, copies, received, log, counts, work, t),
+        TransactionCall::Commit(t) => commit(stored, copies, received, log, counts, work, t),
         TransactionCall::Abort(t) => aborts::abort(stored, copies, received, log, counts, work, t),
     }
 }

@@ -5,6 +5,8 @@ ghost use Rattle.bench_names.specs.declared.ObjectCall.the-variants.{Flush, Rea
 ghost use Rattle.bench_run.specs.Bench.{objectCall};
 use areas::Answer;
 use bench_names::ObjectCall;
+use objects::create;
+use objects::set_word;
 
 // The words of an object.
 const OBJECT_WORDS: usize = 8;
@@ -77,17 +79,8 @@ pub fn object_call(
             p,
         ),
         ObjectCall::Read(t, o) => read_object(stored, copies, received, log, counts, work, t, o),
-        ObjectCall::Create(t, o) => objects::create(
-            stored,
-            copies,
-            received,
-            log,
-            counts,
-            work,
-            t,
-            o,
-        ),
-        ObjectCall::Set(t, o, f, v) => objects::set_word(
+        ObjectCall::Create(t, o) => create(stored, copies, received, log, counts, work, t, o),
+        ObjectCall::Set(t, o, f, v) => set_word(
             stored,
             copies,
             received,
