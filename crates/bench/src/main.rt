@@ -1,8 +1,31 @@
 // The bench program: a store of 4 pages and 64 log records in memory; lines in, answers out.
 use areas::Answer;
-use bench_lines::Command;
-use bench_lines::Ended;
-use bench_lines::Line;
+use bench_feeding::Ended;
+use bench_feeding::Line;
+
+// The store: so many pages and log records.
+const PAGES: usize = 4;
+
+const RECORDS: usize = 64;
+
+// The words of each page area, of the log and its counts, and of the working tables.
+const RECORD_WORDS: usize = 6;
+
+const PAGE_AREA: usize = pages::PAGE_WORDS * PAGES;
+
+const LOG_AREA: usize = RECORD_WORDS * RECORDS;
+
+const COUNTS: usize = 2;
+
+const WORK_AREA: usize = 6 + 67 * PAGES;
+
+// The bytes that are read at a time.
+const CHUNK: usize = 4096;
+
+// Standard input and output.
+const INPUT: i32 = 0;
+
+const OUTPUT: i32 = 1;
 
 // Where the reading stands: the line so far, and the number of the next one.
 struct Place {
@@ -12,11 +35,11 @@ struct Place {
 
 // Writes the output line of an answer.
 fn tell(number: u64, a: Answer) {
-    let mut buf = [0u8; 64];
+    let mut buf = [0u8; bench_output::LINE_ROOM];
     let value = areas::value_of(a);
     let answer = areas::answer_of(a);
-    let n = bench_lines::put_line(&mut buf, number, answer, value);
-    io::write_all(1, &buf[..n]);
+    let n = bench_output::put_line(&mut buf, number, answer, value);
+    io::write_all(OUTPUT, &buf[..n]);
 }
 
 // Does the call of a line that ended, and answers the number of the next line.
@@ -54,7 +77,7 @@ fn take_bytes(
     let mut line = place.line;
     let mut number = place.number;
     for i in 0..bytes.len() {
-        let fed = bench_lines::feed(line, bytes[i]);
+        let fed = bench_feeding::feed(line, bytes[i]);
         line = fed.line;
         let ended = fed.ended;
         number = take(stored, copies, received, log, counts, work, number, ended);
@@ -72,14 +95,14 @@ fn take_input(
     work: &mut [u32],
 ) {
     let mut place = Place {
-        line: bench_lines::no_line(),
+        line: bench_feeding::no_line(),
         number: 1,
     };
     // A proved loop ends: it counts its turns down, from a number that no run uses up.
     let mut turns = u64::MAX;
-    let mut buf = [0u8; 4096];
+    let mut buf = [0u8; CHUNK];
     while turns > 0 {
-        let got = libc::read(0, &mut buf);
+        let got = libc::read(INPUT, &mut buf);
         if got <= 0 {
             turns = 0;
         } else {
@@ -97,7 +120,7 @@ fn take_input(
             turns -= 1;
         }
     }
-    let last = bench_lines::finish(place.line);
+    let last = bench_feeding::finish(place.line);
     take(
         stored,
         copies,
@@ -111,12 +134,12 @@ fn take_input(
 }
 
 fn main() {
-    let mut stored = [0u32; 516];
-    let mut copies = [0u32; 516];
-    let mut received = [0u32; 516];
-    let mut log = [0u32; 384];
-    let mut counts = [0u32; 2];
-    let mut work = [0u32; 274];
+    let mut stored = [0u32; PAGE_AREA];
+    let mut copies = [0u32; PAGE_AREA];
+    let mut received = [0u32; PAGE_AREA];
+    let mut log = [0u32; LOG_AREA];
+    let mut counts = [0u32; COUNTS];
+    let mut work = [0u32; WORK_AREA];
     formatting::format(
         &mut stored,
         &mut copies,

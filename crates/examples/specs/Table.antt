@@ -10,7 +10,7 @@ use Rattle.areas.specs.Answers.{answerOf, valueOf, accepted}
 use Rattle.areas.specs.Areas.{Areas, areas}
 use Rattle.calls.specs.Formatting.{formatted}
 use Rattle.calls.specs.Calls.{Call, begin, commit, lockWrite, read, create, setWord, flush, store, empty, reopen, perform}
-use Rattle.bench_lines.specs.Text.{bytes}
+use Rattle.texts.specs.Text.{bytes}
 use Rattle.bench_run.specs.Bench.{benchStore, benchOutput}
 use Rattle.words.specs.Bits.{withBit, withoutBit, mapOf, slotsSet}
 use Rattle.words.specs.Spans.{over, fill, copied, upTo, same as same-spans}
@@ -38,11 +38,15 @@ use Rattle.calls.specs.Reopening.{reopenCheck, reopened, callReopen, restepChec
 use Rattle.calls.specs.Room.{roomBeyond}
 use Rattle.calls.specs.Stability.{forceCheck, callForce, storeCheck, callStore, emptyCheck, callEmpty}
 use Rattle.calls.specs.Transactions.{beginCheck, begun, callBegin, endedTables, allFlushed, commitCheck, committed, callCommit, rolledBack, restored, abortCheck, aborted, callAbort}
-use Rattle.bench_lines.specs.Commands.{same as same-commands, fieldsOf, numbersFrom, callAlone, callOne, callTwo, callFour, commandOf}
-use Rattle.bench_lines.specs.Lines.{linesOf}
-use Rattle.bench_lines.specs.Numbers.{digitsFrom, numberOf, digitsIn, decimal}
-use Rattle.bench_lines.specs.Output.{outputLine}
-use Rattle.bench_run.specs.Bench.{pageSent, benchCall, outputFrom}
+use Rattle.texts.specs.Same.{same as same-texts}
+use Rattle.texts.specs.Lines.{linesOf}
+use Rattle.texts.specs.Fields.{fieldsOf}
+use Rattle.decimals.specs.Numbers.{digitsFrom, numberOf}
+use Rattle.decimals.specs.Decimal.{digitsIn, decimal}
+use Rattle.bench_names.specs.Names.{callAlone, callOne, callTwo, callFour}
+use Rattle.bench_commands.specs.Commands.{numbersFrom, commandOf}
+use Rattle.bench_output.specs.Output.{outputLine}
+use Rattle.bench_run.specs.Bench.{pageSent, transactionCall, lockCall, objectCall, stabilityCall, passCall, reopeningCall, benchCall, outputFrom}
 
 -- two lists of words are the same; two stores are
 unfoldable pub sameWords : List ℕ → List ℕ → Bool
@@ -107,5 +111,5 @@ table =
     ∷ []
 
 pub table-right : allRight table ≡ true
-unfolding allRight right table sameWords sameAreas refusedBy refusedAfter withBit withoutBit mapOf slotsSet over fill copied upTo same-spans all any count sum lowest isRefAt cleared takenSlot freedSlot releasedIn formattedPages refsSound slotZero freeZero pageSound areaSound tabulate rowsOf withRows changesIn changesLeft reserved effect undone undoing lastNaming openIn logSound redone undoneIn recovered recoverable wordSound recordSound recordsSound appended wellFormed readiness joined lengthsFit rowsInRange workInRange countsInRange inRange greyed perform formatted callFormat cut lockReadCheck readLocked callLockRead lockWriteCheck writeLocked callLockWrite readCheck learned callRead bufferAfter createCheck created callCreate setCheck pruned wordSet callSet flushCheck flushed callFlush passCheck unflagged passStarted callPass lowestGrey targetsGreyed scanned marked sweepMap freedMap advanced sweepCheck sweptPage swept stepCheck callStep reopenCheck reopened callReopen restepCheck pageStored reopeningOver callRestep roomBeyond forceCheck callForce storeCheck callStore emptyCheck callEmpty beginCheck begun callBegin endedTables allFlushed commitCheck committed callCommit rolledBack restored abortCheck aborted callAbort same-commands fieldsOf numbersFrom callAlone callOne callTwo callFour commandOf linesOf digitsFrom numberOf digitsIn decimal outputLine pageSent benchCall outputFrom benchOutput
+unfolding allRight right table sameWords sameAreas refusedBy refusedAfter withBit withoutBit mapOf slotsSet over fill copied upTo same-spans all any count sum lowest isRefAt cleared takenSlot freedSlot releasedIn formattedPages refsSound slotZero freeZero pageSound areaSound tabulate rowsOf withRows changesIn changesLeft reserved effect undone undoing lastNaming openIn logSound redone undoneIn recovered recoverable wordSound recordSound recordsSound appended wellFormed readiness joined lengthsFit rowsInRange workInRange countsInRange inRange greyed perform formatted callFormat cut lockReadCheck readLocked callLockRead lockWriteCheck writeLocked callLockWrite readCheck learned callRead bufferAfter createCheck created callCreate setCheck pruned wordSet callSet flushCheck flushed callFlush passCheck unflagged passStarted callPass lowestGrey targetsGreyed scanned marked sweepMap freedMap advanced sweepCheck sweptPage swept stepCheck callStep reopenCheck reopened callReopen restepCheck pageStored reopeningOver callRestep roomBeyond forceCheck callForce storeCheck callStore emptyCheck callEmpty beginCheck begun callBegin endedTables allFlushed commitCheck committed callCommit rolledBack restored abortCheck aborted callAbort same-texts fieldsOf numbersFrom callAlone callOne callTwo callFour commandOf linesOf digitsFrom numberOf digitsIn decimal outputLine pageSent transactionCall lockCall objectCall stabilityCall passCall reopeningCall benchCall outputFrom benchOutput
 table-right = refl

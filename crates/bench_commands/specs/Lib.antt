@@ -1,0 +1,3 @@
+-- The command of a line of the bench program.
+pub mod Commands
+pub mod Examples

@@ -1,9 +1,0 @@
-pub mod Walk
-pub mod Texts
-pub mod Digits
-pub mod Fields
-pub mod Decimal
-pub mod Written
-pub mod Steps
-pub mod Long
-pub mod Stream

@@ -1,0 +1,13 @@
+use mathlib.Core.Path.{sym, _∙_}
+use borrow.Author.Needs.{needs}
+use Rattle.bench_names.proofs.either.Statement.{statement}
+use Rattle.bench_names.proofs.either.Tie as tie
+
+returns : tie.Need-returns
+returns c = rw (sym (c .before .same .ensures) ∙ c .if1 .taken)
+
+returns-2 : tie.Need-returns-2
+returns-2 c = rw (sym (c .before .same .ensures) ∙ c .if1 .left)
+
+pub either-spec : {M : Type 1} → statement M
+either-spec = tie.close (tie.spec (λ c κs. search needs) returns returns-2)

@@ -1,0 +1,2 @@
+-- The calls of the bench program by their names.
+pub mod Names

@@ -1,0 +1,3 @@
+-- The output lines of the bench program.
+pub mod Output
+pub mod Examples
