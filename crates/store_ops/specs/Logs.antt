@@ -8,13 +8,14 @@ use lib.Seq.{getD-set-same}
 use lib.Dec.{leb}
 use native.Mathlib.Omega.{arith}
 use Rattle.records.specs.declared.Record.{Record}
-use Rattle.pages.specs.Geometry.{pageWords, maxPages}
-use Rattle.records.specs.Records.{recordWords, maxRecords, recorded}
+use Rattle.pages.specs.Geometry.{pageWords, maxPages, mapTop, pageAt}
+use Rattle.records.specs.Records.{recordWords, maxRecords, recorded, sweepOf}
 use Rattle.records.specs.Effects.{effect}
 use Rattle.records.specs.Soundness.{recordSound, recordsSound}
 use Rattle.records.specs.Changes.{reserved}
 use Rattle.record_laws.specs.RecordLaws.{records-sound-wider}
 use Rattle.record_laws.specs.EffectLaws.{sound-for}
+use Rattle.record_ops.specs.InRange.{InRange, sound-in-range, sweep-in-range}
 use Rattle.areas.specs.declared.Answer.the-variants.{Done}
 use Rattle.areas.specs.Areas.{Areas, Out, countWords, areas, out, done, receivedCount, withWork, appended}
 use Rattle.areas.specs.Entry.{records}
@@ -44,7 +45,7 @@ open-kept s n o =
 
 -- record r may be appended to log g with counts k, and takes effect on the pages a
 pub record Fits (a g k : List ℕ) (r : Record) : Type 0 where
-  pub sound : recordSound (length a / pageWords) r ≡ true
+  pub in-range : InRange a r
   pub two : length k ≡ countWords
   pub few : getD k 0 0 < maxRecords
   pub inside : recordWords * getD k 0 0 + recordWords ≤ length g
@@ -54,11 +55,16 @@ pub open-fits : (s : Areas) (n : ℕ) (r : Record) → Open s n → recordSound 
 open-fits s n r o h l =
     let z = o .sized in
     record {
-      sound = sound-for n (s .received) r (z .received-len) h;
+      in-range = sound-in-range (s .received) r (sound-for n (s .received) r (z .received-len) h);
       two = z .counts-len;
       few = omega arith;
       inside = omega arith;
     }
+
+-- a sweep's record, which may free the root in a state that no calls lead to, is in range all the same
+pub sweep-fits : (a g k : List ℕ) (p m : ℕ) → pageAt p + pageWords ≤ length a → m ≤ mapTop → length k ≡ countWords → getD k 0 0 < maxRecords →
+    recordWords * getD k 0 0 + recordWords ≤ length g → Fits a g k (sweepOf p m)
+sweep-fits a g k p m page map two few inside = record { in-range = sweep-in-range a p m page map; two = two; few = few; inside = inside }
 
 -- room, of the lists that it reads
 abbrev pub roomIn : List ℕ → List ℕ → List ℕ → ℕ → Bool
