@@ -16,7 +16,7 @@ use Rattle.records.specs.Effects.{effect}
 use Rattle.records.specs.Soundness.{recordSound, namesObject}
 use Rattle.records.specs.Order.{openIn, openNext, inOrder}
 use Rattle.areas.specs.Areas.{Areas, receivedCount, withWork, appended}
-use Rattle.areas.specs.Layout.{unflushedAt, workWords}
+use Rattle.areas.specs.Layout.{unflushedAt, tableWords}
 use Rattle.areas.specs.Tables.{isActive}
 use Rattle.acceptance.specs.Entered.{Open}
 use Rattle.acceptance.specs.Room.{Room}
@@ -93,7 +93,7 @@ pub record Changing (n : ℕ) (s : Areas) (b : Book) (t : ℕ) (r : Record) (w :
   pub room : Room s 2
   pub own : locksOf (s .work) n .wr t (pageOf (r .object)) ≡ true
   pub back : unapplied r (r .object) (applied r (r .object) (seenFull b (r .object) .object)) ≡ seenFull b (r .object) .object
-  pub beside : Beside (unflushedAt n 0) (workWords n) (s .work) w
+  pub beside : Beside (unflushedAt n 0) (tableWords n) (s .work) w
 
 module _ (n : ℕ) (some : 1 ≤ n) (s : Areas) (b : Book) (i : OpenInv n s b) (h : Open s n) (t : ℕ) (r : Record) (w : List ℕ) (c : Changing n s b t r w) (k : ℕ → ℕ → Bool) where
   abbrev s′ : Areas

@@ -2,13 +2,14 @@
 use mathlib.Core.Path.{_≡_, refl}
 use mathlib.Core.Bool.{Bool, true, false}
 use Prim.Native.Nat.{ℕ}
+use mathlib.Core.List.{List}
+use Rattle.pages.specs.Geometry.{slotWords, pageWords}
 use lib.ListN.{length}
 use lib.Dec.{eqb}
 use Rattle.words.specs.Tests.{clash}
-use Rattle.areas.specs.declared.Check.{Check}
-use Rattle.areas.specs.Answers.{accepted}
+use Rattle.areas.specs.Answers.{Test, accepted}
 use Rattle.areas.specs.Areas.{Areas, Out}
-use Rattle.areas.specs.Entry.{reopening, readiness}
+use Rattle.areas.specs.Entry.{reopening}
 use Rattle.calls.specs.Calls.{Call, perform}
 use Rattle.calls.specs.Calls.Call.{begin, commit, abort, lockRead, lockWrite, read, create, setWord, flush, force, store, empty, pass, step, reopen, restep}
 use Rattle.acceptance.specs.Entered.{opened}
@@ -38,8 +39,8 @@ reopens step = false
 reopens reopen = true
 reopens restep = true
 
-ran-open : (own : Bool) (s : Areas) (check : ℕ → Check) (o : Out) (k : ℕ → Out) → Outcome s (readiness true own s) check o k → accepted (o .answer) ≡ true → reopening s ≡ 2
-ran-open own s check o k h a = let r = h .ran a in opened own s (r .n) (r .ready) .finished
+ran-open : (own : Bool) (s : Areas) (tests : ℕ → List Test) (o : Out) (k : ℕ → Out) → Outcome true own s tests o k → accepted (o .answer) ≡ true → reopening s ≡ 2
+ran-open own s tests o k h a = let r = h .ran a in opened own s (r .n) (r .ready) .finished
 
 pub accepted-open : (s : Areas) (c : Call) → reopens c ≡ false → accepted (perform s c .answer) ≡ true → reopening s ≡ 2
 unfolding perform
@@ -48,10 +49,10 @@ accepted-open s (commit t) r a = ran-open true s _ _ _ (commit-outcome s t) a
 accepted-open s (abort t) r a = ran-open true s _ _ _ (abort-outcome s t) a
 accepted-open s (lockRead t p) r a = ran-open true s _ _ _ (lock-read-outcome s t p) a
 accepted-open s (lockWrite t p) r a = ran-open true s _ _ _ (lock-write-outcome s t p) a
-accepted-open s (read t o buffer) r a = ran-open (eqb (length buffer) 8) s _ _ _ (read-outcome s t o buffer) a
+accepted-open s (read t o buffer) r a = ran-open (eqb (length buffer) slotWords) s _ _ _ (read-outcome s t o buffer) a
 accepted-open s (create t o) r a = ran-open true s _ _ _ (create-outcome s t o) a
 accepted-open s (setWord t o f v) r a = ran-open true s _ _ _ (set-outcome s t o f v) a
-accepted-open s (flush t p image) r a = ran-open (eqb (length image) 129) s _ _ _ (flush-outcome s t p image) a
+accepted-open s (flush t p image) r a = ran-open (eqb (length image) pageWords) s _ _ _ (flush-outcome s t p image) a
 accepted-open s force r a = ran-open true s _ _ _ (force-outcome s) a
 accepted-open s (store p) r a = ran-open true s _ _ _ (store-outcome s p) a
 accepted-open s empty r a = ran-open true s _ _ _ (empty-outcome s) a

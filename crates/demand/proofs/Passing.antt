@@ -10,13 +10,13 @@ use lib.Dec.{eqb, leb, ltb}
 use borrow.Author.Tests.{eqb-true, eqb-false}
 use Rattle.words.specs.Tests.{by-bool}
 use Rattle.pages.specs.Objects.{wordOf}
-use Rattle.areas.specs.declared.Check.the-variants.{Pass}
-use Rattle.areas.specs.Answers.{accepted}
+use Rattle.areas.specs.declared.Check.the-variants.{Accept}
+use Rattle.areas.specs.Answers.{accepted, verdict}
 use Rattle.areas.specs.Areas.{Areas, Out, withWork}
-use Rattle.areas.specs.Layout.{reopeningAt, phaseAt, passPageAt, stepsAt, workWords}
+use Rattle.areas.specs.Layout.{reopeningAt, phaseAt, passPageAt, stepsAt, tableWords}
 use Rattle.areas.specs.Tables.{at, isMarking, withPass, stepsNext}
 use Rattle.calls.specs.Calls.{pass, step}
-use Rattle.calls.specs.Pass.{unflagged, passStarted, callPass, lowestGrey, scanned, advanced, sweepCheck, callStep}
+use Rattle.calls.specs.Pass.{unflagged, passStarted, callPass, lowestGrey, scanned, advanced, sweepTests, callStep}
 use Rattle.acceptance.specs.Entered.{Open, opened}
 use Rattle.acceptance.specs.Pass as Accepted
 use Rattle.acceptance.specs.Pass.{pass-outcome, step-outcome, step-way, step-facts, scans, turns, sweeps, scanning, turning, sweeping, sweepMapOf}
@@ -50,7 +50,7 @@ pass-beside : (w : List ℕ) (phase page steps : ℕ) → Beside 2 5 w (withPass
 pass-beside w phase page steps = later (wider (beside-set w 2 phase) (omega arith) (omega arith))
     (later (wider (beside-set _ 3 page) (omega arith) (omega arith)) (wider (beside-set _ 4 steps) (omega arith) (omega arith)))
 
-start-beside : (w : List ℕ) (n : ℕ) → Beside 2 (workWords n) w (passStarted w n)
+start-beside : (w : List ℕ) (n : ℕ) → Beside 2 (tableWords n) w (passStarted w n)
 unfolding passStarted unflagged
 start-beside w n = later (wider (beside-over _ w _ (16 * n)) (omega arith) (omega arith))
     (later (wider (beside-over _ _ _ (16 * n)) (omega arith) (omega arith))
@@ -151,7 +151,7 @@ open-pass n some s b i a =
 
 -- a pass step, from what a step that frees slots does
 pub open-step : (n : ℕ) → 1 ≤ n → (s : Areas) (b : Book) → OpenInv n s b
-    → (Open s n → phaseOf (at (s .work) phaseAt) ≡ M.sweeping → sweepCheck s (sweepMapOf s n) ≡ Pass → (sweepMapOf s n ≡ 0 → ⊥)
+    → (Open s n → phaseOf (at (s .work) phaseAt) ≡ M.sweeping → verdict (sweepTests s (sweepMapOf s n)) ≡ Accept → (sweepMapOf s n ≡ 0 → ⊥)
     → OpenInv n (sweeping s n .after) (fed n b step (s .received) (sweeping s n .after .received)))
     → accepted (callStep s .answer) ≡ true
     → OpenInv n (callStep s .after) (fed n b step (s .received) (callStep s .after .received))

@@ -48,11 +48,11 @@ module _ (n l : ℕ) (some : 1 ≤ n) where
 
   word : reopening s ≡ 2
   unfolding formatted
-  word = getD-set-same (zeros (workWords n)) 0 2 0 (rw (length-replicate {A = ℕ} (workWords n) 0) (omega arith))
+  word = getD-set-same (zeros (workWords n l)) 0 2 0 (rw (length-replicate {A = ℕ} (workWords n l) 0) (omega arith))
 
   clear : (i : ℕ) → 2 ≤ i → at (s .work) i ≡ 0
   unfolding formatted
-  clear i h = getD-set-other (zeros (workWords n)) 0 i 2 0 (λ z. omega arith) ∙ zero-at (workWords n) i
+  clear i h = getD-set-other (zeros (workWords n l)) 0 i 2 0 (λ z. omega arith) ∙ zero-at (workWords n l) i
 
   size : pages s ≡ n
   unfolding formatted

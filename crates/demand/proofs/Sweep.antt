@@ -17,12 +17,13 @@ use Rattle.records.specs.Records.{sweepOf}
 use Rattle.records.specs.Effects.{effect}
 use Rattle.records.specs.Soundness.{recordSound}
 use Rattle.records.specs.Order.{openIn, openNext}
-use Rattle.areas.specs.declared.Check.the-variants.{Pass}
+use Rattle.areas.specs.declared.Check.the-variants.{Accept}
+use Rattle.areas.specs.Answers.{verdict}
 use Rattle.areas.specs.Areas.{Areas, receivedCount, withWork, appended}
 use Rattle.areas.specs.Layout.{phaseAt, passPageAt}
 use Rattle.areas.specs.Tables.{at}
 use Rattle.calls.specs.Calls.{step}
-use Rattle.calls.specs.Pass.{sweepMap, freedMap, locked, unmarked, advanced, sweptPage, sweepCheck}
+use Rattle.calls.specs.Pass.{sweepMap, freedMap, locked, unmarked, advanced, sweptPage, sweepTests}
 use Rattle.acceptance.specs.Entered.{Open}
 use Rattle.acceptance.specs.Pass.{sweepMapOf, sweeping, sweep-facts}
 use Rattle.acceptance.specs.Room.{Room}
@@ -244,7 +245,7 @@ module _ (n : ℕ) (some : 1 ≤ n) (s : Areas) (b : Book) (i : OpenInv n s b) (
   lines-fed = sweep-released n (s .received) (h .sized .received-len) (b .lines) page map below small frees was-taken
 
 pub open-sweep : (n : ℕ) → 1 ≤ n → (s : Areas) (b : Book) → OpenInv n s b → Open s n → phaseOf (at (s .work) phaseAt) ≡ M.sweeping
-    → sweepCheck s (sweepMapOf s n) ≡ Pass → (sweepMapOf s n ≡ 0 → ⊥)
+    → verdict (sweepTests s (sweepMapOf s n)) ≡ Accept → (sweepMapOf s n ≡ 0 → ⊥)
     → OpenInv n (sweeping s n .after) (fed n b step (s .received) (sweeping s n .after .received))
 unfolding fed freedMap
 open-sweep n some s b i h ph check on = by-bool (locked (s .work) n (at (s .work) passPageAt))

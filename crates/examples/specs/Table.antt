@@ -31,13 +31,13 @@ use Rattle.areas.specs.Layout.{joined}
 use Rattle.areas.specs.Ranges.{lengthsFit, rowsInRange, workInRange, countsInRange, inRange}
 use Rattle.areas.specs.Tables.{greyed}
 use Rattle.calls.specs.Formatting.{callFormat, cut}
-use Rattle.calls.specs.Locks.{lockReadCheck, readLocked, callLockRead, lockWriteCheck, writeLocked, callLockWrite}
-use Rattle.calls.specs.Objects.{readCheck, learned, callRead, bufferAfter, createCheck, created, callCreate, setCheck, pruned, wordSet, callSet, flushCheck, flushed, callFlush}
-use Rattle.calls.specs.Pass.{passCheck, unflagged, passStarted, callPass, lowestGrey, targetsGreyed, scanned, marked, sweepMap, freedMap, advanced, sweepCheck, sweptPage, swept, stepCheck, callStep}
-use Rattle.calls.specs.Reopening.{reopenCheck, reopened, callReopen, restepCheck, pageStored, reopeningOver, callRestep}
+use Rattle.calls.specs.Locks.{lockReadTests, readLocked, callLockRead, lockWriteTests, writeLocked, callLockWrite}
+use Rattle.calls.specs.Objects.{readTests, learned, callRead, bufferAfter, createTests, created, callCreate, setTests, pruned, wordSet, callSet, flushTests, flushed, callFlush}
+use Rattle.calls.specs.Pass.{passTests, unflagged, passStarted, callPass, lowestGrey, targetsGreyed, scanned, marked, sweepMap, freedMap, advanced, sweepTests, sweptPage, swept, stepTests, callStep}
+use Rattle.calls.specs.Reopening.{reopenTests, reopened, callReopen, restepTests, pageStored, reopeningOver, callRestep}
 use Rattle.calls.specs.Room.{roomBeyond}
-use Rattle.calls.specs.Stability.{forceCheck, callForce, storeCheck, callStore, emptyCheck, callEmpty}
-use Rattle.calls.specs.Transactions.{beginCheck, begun, callBegin, endedTables, allFlushed, commitCheck, committed, callCommit, rolledBack, restored, abortCheck, aborted, callAbort}
+use Rattle.calls.specs.Stability.{forceTests, callForce, storeTests, callStore, emptyTests, callEmpty}
+use Rattle.calls.specs.Transactions.{beginTests, begun, callBegin, endedTables, allFlushed, commitTests, committed, callCommit, rolledBack, restored, abortTests, aborted, callAbort}
 use Rattle.texts.specs.Same.{same as same-texts}
 use Rattle.texts.specs.Lines.{linesOf}
 use Rattle.texts.specs.Fields.{fieldsOf}
@@ -111,5 +111,5 @@ table =
     ∷ []
 
 pub table-right : allRight table ≡ true
-unfolding allRight right table sameWords sameAreas refusedBy refusedAfter withBit withoutBit mapOf slotsSet over fill copied upTo same-spans all any count sum lowest isRefAt cleared takenSlot freedSlot releasedIn formattedPages refsSound slotZero freeZero pageSound areaSound tabulate rowsOf withRows changesIn changesLeft reserved effect undone undoing lastNaming openIn logSound redone undoneIn recovered recoverable wordSound recordSound recordsSound appended wellFormed readiness joined lengthsFit rowsInRange workInRange countsInRange inRange greyed perform formatted callFormat cut lockReadCheck readLocked callLockRead lockWriteCheck writeLocked callLockWrite readCheck learned callRead bufferAfter createCheck created callCreate setCheck pruned wordSet callSet flushCheck flushed callFlush passCheck unflagged passStarted callPass lowestGrey targetsGreyed scanned marked sweepMap freedMap advanced sweepCheck sweptPage swept stepCheck callStep reopenCheck reopened callReopen restepCheck pageStored reopeningOver callRestep roomBeyond forceCheck callForce storeCheck callStore emptyCheck callEmpty beginCheck begun callBegin endedTables allFlushed commitCheck committed callCommit rolledBack restored abortCheck aborted callAbort same-texts fieldsOf numbersFrom callAlone callOne callTwo callFour commandOf linesOf digitsFrom numberOf digitsIn decimal outputLine pageSent transactionCall lockCall objectCall stabilityCall passCall reopeningCall benchCall outputFrom benchOutput
+unfolding allRight right table sameWords sameAreas refusedBy refusedAfter withBit withoutBit mapOf slotsSet over fill copied upTo same-spans all any count sum lowest isRefAt cleared takenSlot freedSlot releasedIn formattedPages refsSound slotZero freeZero pageSound areaSound tabulate rowsOf withRows changesIn changesLeft reserved effect undone undoing lastNaming openIn logSound redone undoneIn recovered recoverable wordSound recordSound recordsSound appended wellFormed readiness joined lengthsFit rowsInRange workInRange countsInRange inRange greyed perform formatted callFormat cut lockReadTests readLocked callLockRead lockWriteTests writeLocked callLockWrite readTests learned callRead bufferAfter createTests created callCreate setTests pruned wordSet callSet flushTests flushed callFlush passTests unflagged passStarted callPass lowestGrey targetsGreyed scanned marked sweepMap freedMap advanced sweepTests sweptPage swept stepTests callStep reopenTests reopened callReopen restepTests pageStored reopeningOver callRestep roomBeyond forceTests callForce storeTests callStore emptyTests callEmpty beginTests begun callBegin endedTables allFlushed commitTests committed callCommit rolledBack restored abortTests aborted callAbort same-texts fieldsOf numbersFrom callAlone callOne callTwo callFour commandOf linesOf digitsFrom numberOf digitsIn decimal outputLine pageSent transactionCall lockCall objectCall stabilityCall passCall reopeningCall benchCall outputFrom benchOutput
 table-right = refl

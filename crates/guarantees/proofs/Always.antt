@@ -17,7 +17,7 @@ use Rattle.page_laws.specs.ViewLaws.{length-copied}
 use Rattle.record_laws.specs.RecordLaws.{log-sound-records}
 use Rattle.record_laws.specs.EffectLaws.{length-recovered}
 use Rattle.areas.specs.declared.Check.{Check}
-use Rattle.areas.specs.declared.Check.the-variants.{Pass}
+use Rattle.areas.specs.declared.Check.the-variants.{Accept}
 use Rattle.areas.specs.Answers.{accepted}
 use Rattle.areas.specs.Areas.{Areas, Out, receivedCount, stableCount}
 use Rattle.areas.specs.Layout.{reopeningPageAt, phaseAt, passPageAt, workWords}
@@ -26,7 +26,7 @@ use Rattle.areas.specs.Entry.{pages, records, reopening, readiness}
 use Rattle.calls.specs.Calls.{Call, perform}
 use Rattle.calls.specs.Calls.Call.{begin, commit, abort, lockRead, lockWrite, read, create, setWord, flush, force, store, empty, pass, step, reopen, restep}
 use Rattle.calls.specs.Formatting.{formatted, cut}
-use Rattle.calls.specs.Pass.{advanced, freedMap, sweepMap, locked, sweepCheck, lowestGrey, callStep}
+use Rattle.calls.specs.Pass.{advanced, freedMap, sweepMap, locked, sweepTests, lowestGrey, callStep}
 use Rattle.calls.specs.Reopening.{callReopen, reopened, pageStored, reopeningOver, callRestep}
 use Rattle.acceptance.specs.Calls.{refused-keeps}
 use Rattle.acceptance.specs.Entered.{Open, opened}
@@ -158,7 +158,7 @@ restep-fine n some s b f (reopening-store k l i) a j =
     (λ e. let d : callRestep s .after ≡ reopeningOver s = g ∙ rw e refl in rw d (over-fine n some s b k i f a _ refl refl (rw d at j)))
 
 -- an accepted call of an open store, by what it went through
-through : (own : Bool) (s : Areas) (check : ℕ → Check) (o : Out) (k : ℕ → Out) (n : ℕ) (b′ : Book) → Outcome s (readiness true own s) check o k → accepted (o .answer) ≡ true → pages s ≡ n
+through : (own : Bool) (s : Areas) (tests : ℕ → List Test) (o : Out) (k : ℕ → Out) (n : ℕ) (b′ : Book) → Outcome true own s tests o k → accepted (o .answer) ≡ true → pages s ≡ n
     → OpenInv n (o .after) b′ → (Open s n → check n ≡ Pass → OpenInv n (k n .after) b′ → Fine n (k n .after) b′) → Fine n (o .after) b′
 through own s check o k n b′ h a size j f =
     let r = h .ran a in
@@ -168,7 +168,7 @@ through own s check o k n b′ h a size j f =
     rw g (f (rw e at p) (rw e at (r .passed)) (rw g at j))
 
 -- a pass step
-sweep-fine : (n : ℕ) → 1 ≤ n → (s : Areas) (b : Book) → OpenInv n s b → Fine n s b → Open s n → phaseOf (at (s .work) phaseAt) ≡ M.sweeping → sweepCheck s (sweepMapOf s n) ≡ Pass → (sweepMapOf s n ≡ 0 → ⊥)
+sweep-fine : (n : ℕ) → 1 ≤ n → (s : Areas) (b : Book) → OpenInv n s b → Fine n s b → Open s n → phaseOf (at (s .work) phaseAt) ≡ M.sweeping → verdict (sweepTests s (sweepMapOf s n)) ≡ Accept → (sweepMapOf s n ≡ 0 → ⊥)
     → OpenInv n (sweeping s n .after) (fed n b step (s .received) (sweeping s n .after .received)) → Fine n (sweeping s n .after) (fed n b step (s .received) (sweeping s n .after .received))
 unfolding fed freedMap
 sweep-fine n some s b i f h ph check on j = let p = at (s .work) passPageAt in by-bool (locked (s .work) n p)
@@ -292,8 +292,8 @@ module _ (n l : ℕ) (some : 1 ≤ n) (most : n ≤ 256) (low : 1 ≤ l) (few : 
   unfolding formatted committedOf filtered pagesAfter
   start-fine =
       let s = formatted n l in
-      let w : length (s .work) ≡ 6 + 67 * n = length-set (zeros (workWords n)) 0 2 ∙ length-replicate {A = ℕ} (workWords n) 0 in
-      let two : reopening s ≡ 2 = getD-set-same (zeros (workWords n)) 0 2 0 (rw (length-replicate {A = ℕ} (workWords n) 0) (omega arith)) in
+      let w : length (s .work) ≡ 6 + 67 * n = length-set (zeros (workWords n l)) 0 2 ∙ length-replicate {A = ℕ} (workWords n l) 0 in
+      let two : reopening s ≡ 2 = getD-set-same (zeros (workWords n l)) 0 2 0 (rw (length-replicate {A = ℕ} (workWords n l) 0) (omega arith)) in
       let p : length (s .stored) ≡ 129 * n = formatted-length n some in
       let g : length (s .log) ≡ 6 * l = length-replicate {A = ℕ} (6 * l) 0 in
       let e : records s ≡ l = rw g (omega arith) in
@@ -313,8 +313,8 @@ module _ (n l : ℕ) (some : 1 ≤ n) (most : n ≤ 256) (low : 1 ≤ l) (few : 
         work-len = w;
       })
       formatted-sound
-      (clear-within (s .work) n some w (λ i h. getD-set-other (zeros (workWords n)) 0 i 2 0 (λ z. omega arith) ∙ zero-at (workWords n) i) (omega arith)
-      (let z = getD-set-other (zeros (workWords n)) 0 1 2 0 (λ y. omega arith) ∙ zero-at (workWords n) 1 in omega arith))
+      (clear-within (s .work) n some w (λ i h. getD-set-other (zeros (workWords n l)) 0 i 2 0 (λ z. omega arith) ∙ zero-at (workWords n l) i) (omega arith)
+      (let z = getD-set-other (zeros (workWords n l)) 0 1 2 0 (λ y. omega arith) ∙ zero-at (workWords n l) 1 in omega arith))
       formatted-sound formatted-sound (λ j h. let z : j ≡ 0 = omega arith in rw z formatted-sound) (omega arith)
 
 -- every event

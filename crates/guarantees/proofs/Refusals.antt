@@ -20,7 +20,7 @@ use Rattle.records.specs.Recovery.{recoverable}
 use Rattle.areas.specs.declared.Refusal.{Refusal}
 use Rattle.areas.specs.declared.Refusal.the-variants.{OutOfRange, WrongState, NotLocked, Held, Unknown, Occupied, Differs, Unflushed, LogFull, Unstable, InUse, Unsound}
 use Rattle.areas.specs.declared.Check.{Check}
-use Rattle.areas.specs.declared.Check.the-variants.{Pass, Refuse}
+use Rattle.areas.specs.declared.Check.the-variants.{Accept, Refuse}
 use Rattle.areas.specs.declared.Ready.{Ready}
 use Rattle.areas.specs.declared.Ready.the-variants.{Go, Not}
 use Rattle.areas.specs.Answers.{accepted, need, numberOf, answerOf}
@@ -29,13 +29,13 @@ use Rattle.areas.specs.Layout.{activeAt, readersAt, writersAt}
 use Rattle.areas.specs.Tables.{at, isTxn, isActive, canRead, canWrite, knows, passRuns, isMarking}
 use Rattle.areas.specs.Ranges.{fit, lengthsFit}
 use Rattle.areas.specs.Entry.{pages, records, reopening, wellFormed, readiness, entering}
-use Rattle.calls.specs.Locks.{noOther, lockReadCheck, callLockRead, lockWriteCheck, callLockWrite}
-use Rattle.calls.specs.Objects.{readCheck, callRead, createCheck, callCreate, setCheck, callSet, flushCheck, callFlush, mayWrite, agrees}
-use Rattle.calls.specs.Pass.{passCheck, callPass, lowestGrey, marked, sweepCheck, swept, stepCheck, callStep}
+use Rattle.calls.specs.Locks.{noOther, lockReadTests, callLockRead, lockWriteTests, callLockWrite}
+use Rattle.calls.specs.Objects.{readTests, callRead, createTests, callCreate, setTests, callSet, flushTests, callFlush, mayWrite, agrees}
+use Rattle.calls.specs.Pass.{passTests, callPass, lowestGrey, marked, sweepTests, swept, stepTests, callStep}
 use Rattle.calls.specs.Room.{roomBeyond, roomWithin}
-use Rattle.calls.specs.Reopening.{reopenCheck, reopened, callReopen, restepCheck, callRestep}
-use Rattle.calls.specs.Stability.{forceCheck, callForce, storeCheck, callStore, emptyCheck, callEmpty}
-use Rattle.calls.specs.Transactions.{beginCheck, callBegin, allFlushed, commitCheck, callCommit, changesOf, abortCheck, callAbort}
+use Rattle.calls.specs.Reopening.{reopenTests, reopened, callReopen, restepTests, callRestep}
+use Rattle.calls.specs.Stability.{forceTests, callForce, storeTests, callStore, emptyTests, callEmpty}
+use Rattle.calls.specs.Transactions.{beginTests, callBegin, allFlushed, commitTests, callCommit, changesOf, abortTests, callAbort}
 use Rattle.calls.specs.Calls.{Call, perform}
 use Rattle.calls.specs.Calls.Call.{begin, commit, abort, lockRead, lockWrite, read, create, setWord, flush, force, store, empty, pass, step, reopen, restep}
 use Rattle.acceptance.specs.Entered.{opened}
@@ -100,7 +100,7 @@ module _ (n : ℕ) (some : 1 ≤ n) (s : Areas) (b : Book) (i : Inv3 n s b) (f :
   recovers = rw (f .stored, waits .order, recovered-committed n some s b i (f .sized .stored-len) (f .stored)) (free-all n (committedPages n b′) (firm-stop n (storing 0) b (f .firm) 0 (omega arith)))
 
   reopenable : accepted (callReopen s .answer) ≡ true
-  unfolding callReopen reopenCheck
+  unfolding callReopen reopenTests
   reopenable = rw (fits n s (f .sized), le-leb (stableCount s) (records s) (f .stable-le), f .sized .count, recovers) refl
 
 pub never-unsound : NeverUnsound
@@ -160,44 +160,44 @@ mild n s b f must own e check k c d = entering-not 1 (readiness must own s) s (�
 
 -- a pass step's own
 step-mild : (s : Areas) (n : ℕ) → answerOf (stepped s n .answer) ≡ 1 → ⊥
-unfolding marked swept sweepCheck
+unfolding marked swept sweepTests
 step-mild s n = if-not 1 (isMarking (s .work)) (marked s n) (swept s n)
     (if-not 1 (leb (lowestGrey (s .work) n) (16 * n)) (scanning s n) (turning s n) (λ z. omega arith) (λ z. omega arith))
-    (checked-not 1 (sweepCheck s (sweepMapOf s n)) s (sweeping s n) (also (eqb (sweepMapOf s n) 0 || roomBeyond s 1) LogFull _ (λ y. omega arith) none) (λ z. omega arith))
+    (checked-not 1 (sweepTests s (sweepMapOf s n)) s (sweeping s n) (also (eqb (sweepMapOf s n) 0 || roomBeyond s 1) LogFull _ (λ y. omega arith) none) (λ z. omega arith))
 
 well-formed : (n : ℕ) (s : Areas) (b : Book) → Fine n s b → (c : Call) → ownFits c ≡ true → answerOf (perform s c .answer) ≡ 1 → ⊥
-unfolding perform callBegin callCommit callAbort callLockRead callLockWrite callRead callCreate callSet callFlush callForce callStore callEmpty callPass callStep callRestep callReopen beginCheck commitCheck abortCheck lockReadCheck lockWriteCheck readCheck createCheck setCheck flushCheck forceCheck storeCheck emptyCheck passCheck stepCheck restepCheck reopenCheck
-well-formed n s b f (begin t) o = mild n s b f true true refl (λ m. beginCheck s t) _
+unfolding perform callBegin callCommit callAbort callLockRead callLockWrite callRead callCreate callSet callFlush callForce callStore callEmpty callPass callStep callRestep callReopen beginTests commitTests abortTests lockReadTests lockWriteTests readTests createTests setTests flushTests forceTests storeTests emptyTests passTests stepTests restepTests reopenTests
+well-formed n s b f (begin t) o = mild n s b f true true refl (λ m. beginTests s t) _
     (λ m. also (isTxn t) OutOfRange _ (λ y. omega arith) (also (not (isActive (s .work) t)) WrongState _ (λ y. omega arith) (also (roomBeyond s 2) LogFull _ (λ y. omega arith) none))) (λ m z. omega arith)
-well-formed n s b f (commit t) o = mild n s b f true true refl (λ m. commitCheck s m t) _
+well-formed n s b f (commit t) o = mild n s b f true true refl (λ m. commitTests s m t) _
     (λ m. also (isTxn t) OutOfRange _ (λ y. omega arith) (also (isActive (s .work) t) WrongState _ (λ y. omega arith) (also (allFlushed (s .work) m t) Unflushed _ (λ y. omega arith) (also (roomWithin s 1) LogFull _ (λ y. omega arith) none)))) (λ m z. omega arith)
-well-formed n s b f (abort t) o = mild n s b f true true refl (λ m. abortCheck s t) _
+well-formed n s b f (abort t) o = mild n s b f true true refl (λ m. abortTests s t) _
     (λ m. also (isTxn t) OutOfRange _ (λ y. omega arith) (also (isActive (s .work) t) WrongState _ (λ y. omega arith) (also (roomWithin s (length (changesOf s t) + 1)) LogFull _ (λ y. omega arith) none))) (λ m z. omega arith)
-well-formed n s b f (lockRead t p) o = mild n s b f true true refl (λ m. lockReadCheck s m t p) _
+well-formed n s b f (lockRead t p) o = mild n s b f true true refl (λ m. lockReadTests s m t p) _
     (λ m. also (isTxn t && ltb p m) OutOfRange _ (λ y. omega arith) (also (isActive (s .work) t) WrongState _ (λ y. omega arith) (also (noOther (s .work) (writersAt m p) t) Held _ (λ y. omega arith) none))) (λ m z. omega arith)
-well-formed n s b f (lockWrite t p) o = mild n s b f true true refl (λ m. lockWriteCheck s m t p) _
+well-formed n s b f (lockWrite t p) o = mild n s b f true true refl (λ m. lockWriteTests s m t p) _
     (λ m. also (isTxn t && ltb p m) OutOfRange _ (λ y. omega arith) (also (isActive (s .work) t) WrongState _ (λ y. omega arith) (also (noOther (s .work) (readersAt m p) t && noOther (s .work) (writersAt m p) t) Held _ (λ y. omega arith) none))) (λ m z. omega arith)
-well-formed n s b f (read t x buffer) o = mild n s b f true (eqb (length buffer) 8) o (λ m. readCheck s m t x) _
+well-formed n s b f (read t x buffer) o = mild n s b f true (eqb (length buffer) 8) o (λ m. readTests s m t x) _
     (λ m. also (isTxn t && isObject m x) OutOfRange _ (λ y. omega arith) (also (isActive (s .work) t) WrongState _ (λ y. omega arith) (also (canRead (s .work) m t (pageOf x)) NotLocked _ (λ y. omega arith) (also (knows (s .work) m t x) Unknown _ (λ y. omega arith) none)))) (λ m z. omega arith)
-well-formed n s b f (create t x) o = mild n s b f true true refl (λ m. createCheck s m t x) _
+well-formed n s b f (create t x) o = mild n s b f true true refl (λ m. createTests s m t x) _
     (λ m. also (isTxn t && isObject m x) OutOfRange _ (λ y. omega arith) (also (isActive (s .work) t) WrongState _ (λ y. omega arith) (also (canWrite (s .work) m t (pageOf x)) NotLocked _ (λ y. omega arith) (also (not (occupied (s .received) x)) Occupied _ (λ y. omega arith) (also (roomBeyond s 2) LogFull _ (λ y. omega arith) none))))) (λ m z. omega arith)
-well-formed n s b f (setWord t x g v) o = mild n s b f true true refl (λ m. setCheck s m t x g v) _
+well-formed n s b f (setWord t x g v) o = mild n s b f true true refl (λ m. setTests s m t x g v) _
     (λ m. also (isTxn t && isObject m x && ltb g 8) OutOfRange _ (λ y. omega arith) (also (isActive (s .work) t) WrongState _ (λ y. omega arith) (also (canWrite (s .work) m t (pageOf x)) NotLocked _ (λ y. omega arith) (also (knows (s .work) m t x && mayWrite s m t x g v) Unknown _ (λ y. omega arith) (also (roomBeyond s 2) LogFull _ (λ y. omega arith) none))))) (λ m z. omega arith)
-well-formed n s b f (flush t p image) o = mild n s b f true (eqb (length image) 129) o (λ m. flushCheck s m t p image) _
+well-formed n s b f (flush t p image) o = mild n s b f true (eqb (length image) 129) o (λ m. flushTests s m t p image) _
     (λ m. also (isTxn t && ltb p m) OutOfRange _ (λ y. omega arith) (also (isActive (s .work) t) WrongState _ (λ y. omega arith) (also (canWrite (s .work) m t p) NotLocked _ (λ y. omega arith) (also (agrees image (s .received) p) Differs _ (λ y. omega arith) none)))) (λ m z. omega arith)
-well-formed n s b f force o = mild n s b f true true refl (λ m. forceCheck s) _
+well-formed n s b f force o = mild n s b f true true refl (λ m. forceTests s) _
     (λ m. also (ltb (stableCount s) (receivedCount s)) WrongState _ (λ y. omega arith) none) (λ m z. omega arith)
-well-formed n s b f (store p) o = mild n s b f true true refl (λ m. storeCheck s m p) _
+well-formed n s b f (store p) o = mild n s b f true true refl (λ m. storeTests s m p) _
     (λ m. also (ltb p m) OutOfRange _ (λ y. omega arith) (also (leb (getD (lastNaming (s .log) (receivedCount s)) p 0) (stableCount s)) Unstable _ (λ y. omega arith) none)) (λ m z. omega arith)
-well-formed n s b f empty o = mild n s b f true true refl (λ m. emptyCheck s) _
+well-formed n s b f empty o = mild n s b f true true refl (λ m. emptyTests s) _
     (λ m. also (eqb (at (s .work) activeAt) 0 && eqb (stableCount s) (receivedCount s) && same (s .copies) 0 (s .stored) 0 (length (s .stored))) InUse _ (λ y. omega arith) none) (λ m z. omega arith)
-well-formed n s b f pass o = mild n s b f true true refl (λ m. passCheck s) _
+well-formed n s b f pass o = mild n s b f true true refl (λ m. passTests s) _
     (λ m. also (not (passRuns (s .work))) WrongState _ (λ y. omega arith) none) (λ m z. omega arith)
-well-formed n s b f step o = mild n s b f true true refl (λ m. stepCheck s) (stepped s)
+well-formed n s b f step o = mild n s b f true true refl (λ m. stepTests s) (stepped s)
     (λ m. also (passRuns (s .work)) WrongState _ (λ y. omega arith) none) (step-mild s)
-well-formed n s b f restep o = mild n s b f false true refl (λ m. restepCheck s) _
+well-formed n s b f restep o = mild n s b f false true refl (λ m. restepTests s) _
     (λ m. also (eqb (reopening s) 1) WrongState _ (λ y. omega arith) none) (λ m z. omega arith)
-well-formed n s b f reopen o = checked-not 1 (reopenCheck s) s (done 0 (reopened s))
+well-formed n s b f reopen o = checked-not 1 (reopenTests s) s (done 0 (reopened s))
     (λ h. also (leb (stableCount s) (records s) && recoverable (pages s) (s .stored) (s .log) (stableCount s)) Unsound _ (λ y. omega arith) none (rw (fits n s (f .sized)) at h)) (λ z. omega arith)
 
 pub never-malformed : NeverMalformed
@@ -218,16 +218,16 @@ module _ (n : ℕ) (some : 1 ≤ n) (s : Areas) (b : Book) (i : Inv3 n s b) (f :
       omega arith
 
   commit-room : answerOf (callCommit s t .answer) ≡ 11 → ⊥
-  unfolding callCommit commitCheck
+  unfolding callCommit commitTests
   commit-room = entering-not 11 (readiness true true s) s _ (ready-not 11 true true s (formed n s b f true refl) (λ z. omega arith) (λ z. omega arith))
-      (λ m g. let e = opened true s m g .finished in checked-not 11 (commitCheck s m t) s _
+      (λ m g. let e = opened true s m g .finished in checked-not 11 (commitTests s m t) s _
       (need-then 11 (isTxn t) OutOfRange _ (λ y. omega arith) (λ x. need-then 11 (isActive (s .work) t) WrongState _ (λ y. omega arith) (λ a. need-then 11 (allFlushed (s .work) m t) Unflushed _ (λ y. omega arith)
       (λ u h. let r = reserve x a e in let z : _≡_ {A = ℕ} 0 11 = rw (le-leb (receivedCount s + 1) (records s) (omega arith)) at h in omega arith)))) (λ z. omega arith))
 
   abort-room : answerOf (callAbort s t .answer) ≡ 11 → ⊥
-  unfolding callAbort abortCheck
+  unfolding callAbort abortTests
   abort-room = entering-not 11 (readiness true true s) s _ (ready-not 11 true true s (formed n s b f true refl) (λ z. omega arith) (λ z. omega arith))
-      (λ m g. let e = opened true s m g .finished in checked-not 11 (abortCheck s t) s _
+      (λ m g. let e = opened true s m g .finished in checked-not 11 (abortTests s t) s _
       (need-then 11 (isTxn t) OutOfRange _ (λ y. omega arith) (λ x. need-then 11 (isActive (s .work) t) WrongState _ (λ y. omega arith)
       (λ a h. let r = reserve x a e in let z : _≡_ {A = ℕ} 0 11 = rw (le-leb (receivedCount s + (length (changesOf s t) + 1)) (records s) r) at h in omega arith))) (λ z. omega arith))
 

@@ -106,7 +106,7 @@ one-page n s s′ p z l e c d = record {
 }
 
 -- an accepted call, by what it went through: k says what it leaves
-went : (own : Bool) (s : Areas) (check : ℕ → Check) (o : Out) (k : ℕ → Out) → Outcome s (readiness true own s) check o k → accepted (o .answer) ≡ true
+went : (own : Bool) (s : Areas) (tests : ℕ → List Test) (o : Out) (k : ℕ → Out) → Outcome true own s tests o k → accepted (o .answer) ≡ true
     → ((n : ℕ) → Open s n → AtMostOne s (k n .after)) → AtMostOne s (o .after)
 went own s check o k h a f = let r = h .ran a in rw (r .gives) (f (r .n) (opened own s (r .n) (r .ready)))
 

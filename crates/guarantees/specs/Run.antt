@@ -24,13 +24,13 @@ use Rattle.records.specs.Soundness.{wordSound, recordSound, recordsSound}
 use Rattle.areas.specs.Entry.{wellFormed, readiness}
 use Rattle.areas.specs.Ranges.{lengthsFit, rowsInRange, workInRange, countsInRange, inRange}
 use Rattle.areas.specs.Tables.{greyed}
-use Rattle.calls.specs.Locks.{lockWriteCheck, writeLocked, callLockWrite}
-use Rattle.calls.specs.Objects.{createCheck, created, callCreate, setCheck, pruned, wordSet, callSet, flushCheck, flushed, callFlush}
-use Rattle.calls.specs.Pass.{passCheck, unflagged, passStarted, callPass, lowestGrey, targetsGreyed, scanned, marked, sweepMap, freedMap, advanced, sweepCheck, sweptPage, swept, stepCheck, callStep}
-use Rattle.calls.specs.Reopening.{reopenCheck, reopened, callReopen, restepCheck, pageStored, reopeningOver, callRestep}
+use Rattle.calls.specs.Locks.{lockWriteTests, writeLocked, callLockWrite}
+use Rattle.calls.specs.Objects.{createTests, created, callCreate, setTests, pruned, wordSet, callSet, flushTests, flushed, callFlush}
+use Rattle.calls.specs.Pass.{passTests, unflagged, passStarted, callPass, lowestGrey, targetsGreyed, scanned, marked, sweepMap, freedMap, advanced, sweepTests, sweptPage, swept, stepTests, callStep}
+use Rattle.calls.specs.Reopening.{reopenTests, reopened, callReopen, restepTests, pageStored, reopeningOver, callRestep}
 use Rattle.calls.specs.Room.{roomBeyond}
-use Rattle.calls.specs.Stability.{forceCheck, callForce}
-use Rattle.calls.specs.Transactions.{beginCheck, begun, callBegin, endedTables, allFlushed, commitCheck, committed, callCommit}
+use Rattle.calls.specs.Stability.{forceTests, callForce}
+use Rattle.calls.specs.Transactions.{beginTests, begun, callBegin, endedTables, allFlushed, commitTests, committed, callCommit}
 
 -- page 0 with objects 1 and 2, where word 0 of object 1 is w
 abbrev pub image : ℕ → List ℕ
@@ -68,5 +68,5 @@ pub run-told : told (formatted 2 16) run
     ∷ 9 ∷ 0 ∷ 10 ∷ 11 ∷ 0 ∷ 12 ∷ 1 ∷ 2 ∷ 3 ∷ 4 ∷ 5 ∷ 6 ∷ 7 ∷ 8 ∷ 9 ∷ 10 ∷ 11 ∷ 12
     ∷ 0 ∷ 0 ∷ 0 ∷ 0 ∷ 1 ∷ 2
     ∷ 3 ∷ 2 ∷ 0 ∷ 0 ∷ []
-unfolding told withBit withoutBit mapOf slotsSet over fill copied upTo same all any count sum lowest isRefAt cleared takenSlot freedSlot releasedIn formattedPages refsSound slotZero freeZero pageSound areaSound changesIn changesLeft reserved effect undone undoing lastNaming openIn logSound redone undoneIn recovered recoverable wordSound recordSound recordsSound appended wellFormed readiness lengthsFit rowsInRange workInRange countsInRange inRange greyed perform formatted cut lockWriteCheck writeLocked callLockWrite createCheck created callCreate setCheck pruned wordSet callSet flushCheck flushed callFlush passCheck unflagged passStarted callPass lowestGrey targetsGreyed scanned marked sweepMap freedMap advanced sweepCheck sweptPage swept stepCheck callStep reopenCheck reopened callReopen restepCheck pageStored reopeningOver callRestep roomBeyond forceCheck callForce beginCheck begun callBegin endedTables allFlushed commitCheck committed callCommit
+unfolding told withBit withoutBit mapOf slotsSet over fill copied upTo same all any count sum lowest isRefAt cleared takenSlot freedSlot releasedIn formattedPages refsSound slotZero freeZero pageSound areaSound changesIn changesLeft reserved effect undone undoing lastNaming openIn logSound redone undoneIn recovered recoverable wordSound recordSound recordsSound appended wellFormed readiness lengthsFit rowsInRange workInRange countsInRange inRange greyed perform formatted cut lockWriteTests writeLocked callLockWrite createTests created callCreate setTests pruned wordSet callSet flushTests flushed callFlush passTests unflagged passStarted callPass lowestGrey targetsGreyed scanned marked sweepMap freedMap advanced sweepTests sweptPage swept stepTests callStep reopenTests reopened callReopen restepTests pageStored reopeningOver callRestep roomBeyond forceTests callForce beginTests begun callBegin endedTables allFlushed commitTests committed callCommit
 run-told = refl

@@ -10,7 +10,7 @@ use lib.Dec.{eqb}
 use borrow.Author.Tests.{eqb-true, eqb-false}
 use Rattle.words.specs.Tests.{by-bool}
 use Rattle.pages.specs.Geometry.{isObject}
-use Rattle.areas.specs.Layout.{colourAt, workWords}
+use Rattle.areas.specs.Layout.{colourAt, tableWords}
 use Rattle.areas.specs.Tables as Tables
 use Rattle.areas.specs.Tables.{at, coloured, isWhite, mayMark}
 use Rattle.collector.specs.State.{grey, whiteToGrey, greyed}
@@ -18,7 +18,7 @@ use Rattle.page_laws.specs.Places.{object-range}
 use Rattle.shown.specs.Tables.{colourOf, colourAtObject}
 use Rattle.shown.proofs.Frames.{Beside, beside-self, beside-set, wider, is-object}
 
-pub grey-beside : (w : List ℕ) (n x : ℕ) → 1 ≤ x → x ≤ 16 * n → Beside (colourAt n 1) (workWords n) w (Tables.greyed w n x)
+pub grey-beside : (w : List ℕ) (n x : ℕ) → 1 ≤ x → x ≤ 16 * n → Beside (colourAt n 1) (tableWords n) w (Tables.greyed w n x)
 unfolding Tables.greyed
 grey-beside w n x low top = by-bool (mayMark w n x && isWhite w n x)
     (λ e. rw e (wider (beside-set w (colourAt n x) 1) (omega arith) (omega arith)))

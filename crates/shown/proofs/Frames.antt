@@ -14,7 +14,7 @@ use Rattle.words.specs.Tests.{by-bool}
 use Rattle.words.specs.Bits.{bit, withBit, withoutBit}
 use Rattle.words.specs.Spans.{over, fill, length-over, length-fill, over-outside, fill-outside}
 use Rattle.pages.specs.Geometry.{isObject}
-use Rattle.areas.specs.Layout.{reopeningAt, reopeningPageAt, phaseAt, passPageAt, stepsAt, activeAt, readersAt, writersAt, unflushedAt, colourAt, workWords}
+use Rattle.areas.specs.Layout.{reopeningAt, reopeningPageAt, phaseAt, passPageAt, stepsAt, activeAt, readersAt, writersAt, unflushedAt, colourAt, tableWords}
 use Rattle.areas.specs.Tables.{at, has, gain, lose, flag}
 use Rattle.collector.specs.Bits.{_and_, true-and}
 use Rattle.collector.specs.State.{Locks, Tables, Pass}
@@ -158,10 +158,10 @@ module _ {a b : ℕ} {w v : List ℕ} (e : Beside a b w v) (n : ℕ) where
       word : (c : ℕ) → unflushedAt n 0 ≤ c → c + 16 * n ≤ colourAt n 1 → (x : ℕ) → isObject n x ≡ true → at v (byObject c x) ≡ at w (byObject c x)
       word c l u x k = let low = object-range n x k .0 in let top = object-range n x k .1 in kept e h (byObject c x) (omega arith) (omega arith)
 
-  pub colours-kept : Apart a b (colourAt n 1) (workWords n) → colourAtObject v n ≡ colourAtObject w n
+  pub colours-kept : Apart a b (colourAt n 1) (tableWords n) → colourAtObject v n ≡ colourAtObject w n
   colours-kept h = colour-same w v n (λ x k. let low = object-range n x k .0 in let top = object-range n x k .1 in kept e h (colourAt n x) (omega arith) (omega arith))
 
-  pub pass-kept : Apart a b phaseAt activeAt → Apart a b (colourAt n 1) (workWords n) → passOf v n ≡ passOf w n
+  pub pass-kept : Apart a b phaseAt activeAt → Apart a b (colourAt n 1) (tableWords n) → passOf v n ≡ passOf w n
   pass-kept h k = pass-ext _ _ (ap phaseOf (kept e h phaseAt (omega arith) (omega arith)))
       (kept e h passPageAt (omega arith) (omega arith))
       (kept e h stepsAt (omega arith) (omega arith))

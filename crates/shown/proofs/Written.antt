@@ -12,7 +12,7 @@ use Rattle.words.specs.Tests.{if, by-bool, and-split}
 use Rattle.pages.specs.Geometry.{pageOf, isRef, isRefAt}
 use Rattle.pages.specs.Objects.{wordOf}
 use Rattle.pages.specs.Soundness.{areaSound}
-use Rattle.areas.specs.Layout.{phaseAt, passPageAt, stepsAt, unflushedAt, knownAt, prunedAt, createdAt, colourAt, workWords}
+use Rattle.areas.specs.Layout.{phaseAt, passPageAt, stepsAt, unflushedAt, knownAt, prunedAt, createdAt, colourAt, tableWords}
 use Rattle.areas.specs.Tables as Words
 use Rattle.areas.specs.Tables.{at, gain}
 use Rattle.calls.specs.Objects.{pruned, prunes}
@@ -47,11 +47,11 @@ module _ (w : List ℕ) (n t x : ℕ) (low : 1 ≤ x) (top : x ≤ 16 * n) where
   enters : Beside (prunedAt n 1) (createdAt n 1) w entered
   enters = wider (beside-gain w (prunedAt n x) t) (omega arith) (omega arith)
 
-  greys : Beside (colourAt n 1) (workWords n) entered (pruned w n t x)
+  greys : Beside (colourAt n 1) (tableWords n) entered (pruned w n t x)
   unfolding pruned
   greys = by-bool (Words.isMarking w) (λ e. rw e (grey-beside entered n x low top)) (λ e. rw e (beside-self _ _ entered))
 
-  prune-beside : Beside (prunedAt n 1) (workWords n) w (pruned w n t x)
+  prune-beside : Beside (prunedAt n 1) (tableWords n) w (pruned w n t x)
   prune-beside = later (wider enters (omega arith) (omega arith)) (wider greys (omega arith) (omega arith))
 
   module _ (len : length w ≡ 6 + 67 * n) where
@@ -106,7 +106,7 @@ module _ (a w : List ℕ) (n t o f v : ℕ) (sound : areaSound a n ≡ true) (lo
       let z = eqb-false target 0 (not-true (eqb target 0) (q .1)) in
       (omega arith, reference a n sound o f low top (ltb-true f 4 (q .0)))
 
-  pub set-beside : Beside (unflushedAt n 0) (workWords n) w (writes a w n t o f v)
+  pub set-beside : Beside (unflushedAt n 0) (tableWords n) w (writes a w n t o f v)
   set-beside = by-bool (prunes a o f v)
       (λ e. let r = target-range e in
       rw e (later (wider dirties (omega arith) (omega arith)) (wider (prune-beside unflushed n t target (r .0) (r .1)) (omega arith) (omega arith))))
