@@ -1,7 +1,7 @@
 -- 'Refused calls change nothing', of every call. Assumes nothing.
 use Rattle.areas.specs.Areas.{Areas}
 use Rattle.calls.specs.Calls.{Call, perform}
-use Rattle.calls.specs.Calls.Call.{begin, commit, abort, lockRead, lockWrite, read, create, setWord, flush, force, store, empty, pass, step, reopen, restep}
+use Rattle.calls.specs.Calls.Call.{begin, commit, abort, lockRead, lockWrite, read, create, setWord, flush, force, store, empty, pass, step, reopen, restep, look}
 use Rattle.acceptance.specs.Ran.{Keeps}
 use Rattle.acceptance.specs.Transactions.{begin-outcome, commit-outcome, abort-outcome}
 use Rattle.acceptance.specs.Locks.{lock-read-outcome, lock-write-outcome}
@@ -9,6 +9,7 @@ use Rattle.acceptance.specs.Objects.{read-outcome, create-outcome, set-o
 use Rattle.acceptance.specs.Stability.{force-outcome, store-outcome, empty-outcome}
 use Rattle.acceptance.specs.Pass.{pass-outcome, step-outcome}
 use Rattle.acceptance.specs.Reopening.{reopen-keeps, restep-outcome}
+use Rattle.acceptance.specs.Looks.{look-outcome}
 
 -- accepted (perform s c .answer) ≡ false → perform s c .after ≡ s
 pub refused-keeps : (s : Areas) (c : Call) → Keeps s (perform s c)
@@ -29,3 +30,4 @@ refused-keeps s pass = pass-outcome s .keeps
 refused-keeps s step = step-outcome s .keeps
 refused-keeps s reopen = reopen-keeps s
 refused-keeps s restep = restep-outcome s .keeps
+refused-keeps s (look q) = look-outcome s q .keeps

@@ -10,4 +10,5 @@ pub mod Objects
 pub mod Stability
 pub mod Pass
 pub mod Reopening
+pub mod Looks
 pub mod Calls

@@ -10,7 +10,7 @@ use Rattle.pages.specs.Geometry.{isRef, root}
 use Rattle.pages.specs.Objects.{taken, wordOf}
 use Rattle.records.specs.declared.Record.{Record}
 use Rattle.records.specs.Records.{beginOf, createOf, setOf, commitOf, abortedOf, sweepOf}
-use Rattle.calls.specs.Calls.{Call, begin, commit, abort, lockRead, lockWrite, read, create, setWord, flush, force, store, empty, pass, step, reopen, restep}
+use Rattle.calls.specs.Calls.{Call, begin, commit, abort, lockRead, lockWrite, read, create, setWord, flush, force, store, empty, pass, step, reopen, restep, look}
 use Rattle.book.specs.Lines.{Line, line, left, undoneLines}
 use Rattle.book.specs.Books.{Stage, opened, awaiting, storing, Book, fullPages, stopped}
 
@@ -91,3 +91,4 @@ fed n b pass before after = b
 fed n b step before after = withLines b (sweepLines before after (b .lines) n)
 fed n b reopen before after = stopped (storing 0) b
 fed n b restep before after = atStage b (stepped n (b .stage))
+fed n b (look q) before after = b

@@ -6,7 +6,7 @@ use mathlib.Core.List.{List}
 use lib.Dec.{eqb}
 use Rattle.pages.specs.Objects.{wordOf}
 use Rattle.records.specs.Records.{createOf, setOf}
-use Rattle.calls.specs.Calls.{Call, begin, commit, abort, lockRead, lockWrite, read, create, setWord, flush, force, store, empty, pass, step, reopen, restep}
+use Rattle.calls.specs.Calls.{Call, begin, commit, abort, lockRead, lockWrite, read, create, setWord, flush, force, store, empty, pass, step, reopen, restep, look}
 use Rattle.book.specs.Books.{Book, storing, fullPages}
 use Rattle.book.specs.Feeding.{fed, adds, refersTo, stepped}
 use Rattle.book_laws.specs.Keeping.{BookInv, Expects}
@@ -31,3 +31,4 @@ fed-inv n b pass before after i h = i
 fed-inv n b step before after i h = sweeps-inv b i before after n
 fed-inv n b reopen before after i h = stop-inv (storing 0) b i
 fed-inv n b restep before after i h = stage-inv b i (stepped n (b .stage))
+fed-inv n b (look q) before after i h = i

@@ -11,7 +11,7 @@ use Rattle.records.specs.declared.Record.{Record}
 use Rattle.records.specs.Records.{isBegin, isChange, isEnd, isSweep}
 use Rattle.records.specs.Soundness.{recordSound}
 use Rattle.words.specs.Tests.{if}
-use Rattle.calls.specs.Calls.{Call, begin, commit, abort, lockRead, lockWrite, read, create, setWord, flush, force, store, empty, pass, step, reopen, restep}
+use Rattle.calls.specs.Calls.{Call, begin, commit, abort, lockRead, lockWrite, read, create, setWord, flush, force, store, empty, pass, step, reopen, restep, look}
 use Rattle.book.specs.Lines.{Line, isLeft, hasEnd}
 use Rattle.book.specs.Books.{Book, runs}
 
@@ -97,3 +97,4 @@ Expects b pass = Unit
 Expects b step = Unit
 Expects b reopen = Unit
 Expects b restep = Unit
+Expects b (look q) = Unit

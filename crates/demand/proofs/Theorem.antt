@@ -8,7 +8,9 @@ use Rattle.words.specs.Tests.{by-bool}
 use Rattle.areas.specs.Answers.{accepted}
 use Rattle.areas.specs.Areas.{Areas}
 use Rattle.calls.specs.Calls.{Call, perform}
-use Rattle.calls.specs.Calls.Call.{begin, commit, abort, lockRead, lockWrite, read, create, setWord, flush, force, store, empty, pass, step, reopen, restep}
+use Rattle.calls.specs.Calls.Call.{begin, commit, abort, lockRead, lockWrite, read, create, setWord, flush, force, store, empty, pass, step, reopen, restep, look}
+use Rattle.calls.specs.Looks.{Look}
+use Rattle.acceptance.specs.Looks.{look-keeps}
 use Rattle.acceptance.specs.Calls.{refused-keeps}
 use Rattle.book.specs.Books.{Book}
 use Rattle.book.specs.Feeding.{fed}
@@ -43,6 +45,11 @@ when-open n s b c r k (open-store i) a = k i
 when-open n s b c r k (cut-store i) a = absurd (let w = accepted-open s c r a in let z = i .word in omega arith)
 when-open n s b c r k (reopening-store j l i) a = absurd (let w = accepted-open s c r a in let z = i .word in omega arith)
 
+-- a call that only looks changes neither store nor book
+looked-keeps : (n : ℕ) (s : Areas) (b : Book) (q : Look) → Inv3 n s b → Kept n s b (look q)
+unfolding perform fed
+looked-keeps n s b q i = rw (look-keeps s q) i
+
 -- every accepted call keeps the invariant
 accepted-keeps : (n : ℕ) → 1 ≤ n → (s : Areas) (b : Book) (c : Call) → Inv3 n s b → accepted (perform s c .answer) ≡ true → Kept n s b c
 unfolding perform
@@ -62,6 +69,7 @@ accepted-keeps n some s b pass i a = when-open n s b pass refl (λ o. open-store
 accepted-keeps n some s b step i a = when-open n s b step refl (λ o. open-store (open-step n some s b o (open-sweep n some s b o) a)) i a
 accepted-keeps n some s b reopen i a = reopen-kept n some s b i a
 accepted-keeps n some s b restep i a = restep-kept n some s b i a
+accepted-keeps n some s b (look q) i a = looked-keeps n s b q i
 
 abbrev Inv : ℕ → Point → Type 0
 Inv n q = Inv3 n (q .store) (q .book)

@@ -6,7 +6,7 @@ use mathlib.Core.Bool.{Bool, true, false, _&&_}
 use mathlib.Core.List.{List, [], _∷_}
 use lib.ListN.{set, take, replicate}
 use lib.Dec.{eqb}
-use Rattle.areas.specs.Answers.{answerOf, valueOf, accepted}
+use Rattle.areas.specs.Answers.{answerOf, valueOf, accepted, verdict}
 use Rattle.areas.specs.Areas.{Areas, areas}
 use Rattle.calls.specs.Formatting.{formatted}
 use Rattle.calls.specs.Calls.{Call, begin, commit, lockWrite, read, create, setWord, flush, store, empty, reopen, perform}
@@ -26,7 +26,7 @@ use Rattle.records.specs.Order.{openIn, logSound}
 use Rattle.records.specs.Recovery.{redone, undoneIn, recovered, recoverable}
 use Rattle.records.specs.Soundness.{wordSound, recordSound, recordsSound}
 use Rattle.areas.specs.Areas.{appended}
-use Rattle.areas.specs.Entry.{wellFormed, readiness}
+use Rattle.areas.specs.Entry.{wellFormed, called}
 use Rattle.areas.specs.Layout.{joined}
 use Rattle.areas.specs.Ranges.{lengthsFit, rowsInRange, workInRange, countsInRange, inRange}
 use Rattle.areas.specs.Tables.{greyed}
@@ -111,5 +111,5 @@ table =
     ∷ []
 
 pub table-right : allRight table ≡ true
-unfolding allRight right table sameWords sameAreas refusedBy refusedAfter withBit withoutBit mapOf slotsSet over fill copied upTo same-spans all any count sum lowest isRefAt cleared takenSlot freedSlot releasedIn formattedPages refsSound slotZero freeZero pageSound areaSound tabulate rowsOf withRows changesIn changesLeft reserved effect undone undoing lastNaming openIn logSound redone undoneIn recovered recoverable wordSound recordSound recordsSound appended wellFormed readiness joined lengthsFit rowsInRange workInRange countsInRange inRange greyed perform formatted callFormat cut lockReadTests readLocked callLockRead lockWriteTests writeLocked callLockWrite readTests learned callRead bufferAfter createTests created callCreate setTests pruned wordSet callSet flushTests flushed callFlush passTests unflagged passStarted callPass lowestGrey targetsGreyed scanned marked sweepMap freedMap advanced sweepTests sweptPage swept stepTests callStep reopenTests reopened callReopen restepTests pageStored reopeningOver callRestep roomBeyond forceTests callForce storeTests callStore emptyTests callEmpty beginTests begun callBegin endedTables allFlushed commitTests committed callCommit rolledBack restored abortTests aborted callAbort same-texts fieldsOf numbersFrom callAlone callOne callTwo callFour commandOf linesOf digitsFrom numberOf digitsIn decimal outputLine pageSent transactionCall lockCall objectCall stabilityCall passCall reopeningCall benchCall outputFrom benchOutput
+unfolding allRight right table sameWords sameAreas refusedBy refusedAfter withBit withoutBit mapOf slotsSet over fill copied upTo same-spans all any count sum lowest isRefAt cleared takenSlot freedSlot releasedIn formattedPages refsSound slotZero freeZero pageSound areaSound tabulate rowsOf withRows changesIn changesLeft reserved effect undone undoing lastNaming openIn logSound redone undoneIn recovered recoverable wordSound recordSound recordsSound appended wellFormed called verdict joined lengthsFit rowsInRange workInRange countsInRange inRange greyed perform formatted callFormat cut lockReadTests readLocked callLockRead lockWriteTests writeLocked callLockWrite readTests learned callRead bufferAfter createTests created callCreate setTests pruned wordSet callSet flushTests flushed callFlush passTests unflagged passStarted callPass lowestGrey targetsGreyed scanned marked sweepMap freedMap advanced sweepTests sweptPage swept stepTests callStep reopenTests reopened callReopen restepTests pageStored reopeningOver callRestep roomBeyond forceTests callForce storeTests callStore emptyTests callEmpty beginTests begun callBegin endedTables allFlushed commitTests committed callCommit rolledBack restored abortTests aborted callAbort same-texts fieldsOf numbersFrom callAlone callOne callTwo callFour commandOf linesOf digitsFrom numberOf digitsIn decimal outputLine pageSent transactionCall lockCall objectCall stabilityCall passCall reopeningCall benchCall outputFrom benchOutput
 table-right = refl

@@ -9,7 +9,7 @@ use lib.Seq.{getD-set-same, getD-set-other}
 use lib.Dec.{eqb, ltb}
 use borrow.Author.Tests.{ltb-true, eqb-false, ne-eqb}
 use Rattle.words.specs.Tests.{by-bool}
-use Rattle.pages.specs.Geometry.{objectAt, pageOf, slotOf, root}
+use Rattle.pages.specs.Geometry.{objectAt, pageOf, slotOf, root, slotWords, pageWords}
 use Rattle.pages.specs.Objects.{slotWord, wordOf, formattedPages}
 use Rattle.pages.specs.Soundness.{areaSound}
 use Rattle.page_laws.specs.SoundFacts.{facts-sound, copied-sound}
@@ -18,13 +18,13 @@ use Rattle.record_laws.specs.RecordLaws.{log-sound-records}
 use Rattle.record_laws.specs.EffectLaws.{length-recovered}
 use Rattle.areas.specs.declared.Check.{Check}
 use Rattle.areas.specs.declared.Check.the-variants.{Accept}
-use Rattle.areas.specs.Answers.{accepted}
+use Rattle.areas.specs.Answers.{accepted, Test, verdict}
 use Rattle.areas.specs.Areas.{Areas, Out, receivedCount, stableCount}
 use Rattle.areas.specs.Layout.{reopeningPageAt, phaseAt, passPageAt, workWords}
 use Rattle.areas.specs.Tables.{at}
-use Rattle.areas.specs.Entry.{pages, records, reopening, readiness}
+use Rattle.areas.specs.Entry.{pages, records, reopening}
 use Rattle.calls.specs.Calls.{Call, perform}
-use Rattle.calls.specs.Calls.Call.{begin, commit, abort, lockRead, lockWrite, read, create, setWord, flush, force, store, empty, pass, step, reopen, restep}
+use Rattle.calls.specs.Calls.Call.{begin, commit, abort, lockRead, lockWrite, read, create, setWord, flush, force, store, empty, pass, step, reopen, restep, look}
 use Rattle.calls.specs.Formatting.{formatted, cut}
 use Rattle.calls.specs.Pass.{advanced, freedMap, sweepMap, locked, sweepTests, lowestGrey, callStep}
 use Rattle.calls.specs.Reopening.{callReopen, reopened, pageStored, reopeningOver, callRestep}
@@ -80,6 +80,7 @@ use Rattle.guarantees.proofs.Tables.{Within, set-within, word, reopenin
 use Rattle.guarantees.proofs.Sound.{Firm, firm-stop}
 use Rattle.guarantees.proofs.Fine.{Fine, resized, in-range, open-fine, held-none, quiet-fine}
 use Rattle.guarantees.proofs.Keeps.{within, begun-fine, created-fine, set-fine, committed-fine, aborted-fine, flushed-fine, stored-fine, forced-fine, emptied-fine, swept-fine}
+use Rattle.acceptance.specs.Looks.{look-keeps}
 
 -- the invariant, by the reopening word
 pub as-open : (n : ℕ) (s : Areas) (b : Book) → Inv3 n s b → reopening s ≡ 2 → OpenInv n s b
@@ -159,8 +160,8 @@ restep-fine n some s b f (reopening-store k l i) a j =
 
 -- an accepted call of an open store, by what it went through
 through : (own : Bool) (s : Areas) (tests : ℕ → List Test) (o : Out) (k : ℕ → Out) (n : ℕ) (b′ : Book) → Outcome true own s tests o k → accepted (o .answer) ≡ true → pages s ≡ n
-    → OpenInv n (o .after) b′ → (Open s n → check n ≡ Pass → OpenInv n (k n .after) b′ → Fine n (k n .after) b′) → Fine n (o .after) b′
-through own s check o k n b′ h a size j f =
+    → OpenInv n (o .after) b′ → (Open s n → verdict (tests n) ≡ Accept → OpenInv n (k n .after) b′ → Fine n (k n .after) b′) → Fine n (o .after) b′
+through own s tests o k n b′ h a size j f =
     let r = h .ran a in
     let p = opened own s (r .n) (r .ready) in
     let e : r .n ≡ n = sym (p .sized .count) ∙ size in
@@ -215,7 +216,7 @@ module _ (n : ℕ) (some : 1 ≤ n) (s : Areas) (b : Book) (f : Fine n s b) (v :
       through true s _ _ _ n _ (lock-write-outcome s t p) a (i .size) (open-lock-write n some s b i t p a)
       (λ h k j. let g = lock-write-facts s n t p k in quiet-fine n some s b b _ j f h (write-locked-within (s .work) n some (table i h) t p (g .txn) (g .page)) refl refl)
   accepted-fine (read t x buffer) a = let i = here (read t x buffer) refl a in
-      through (eqb (length buffer) 8) s _ _ _ n _ (read-outcome s t x buffer) a (i .size) (open-read n some s b i t x buffer a)
+      through (eqb (length buffer) slotWords) s _ _ _ n _ (read-outcome s t x buffer) a (i .size) (open-read n some s b i t x buffer a)
       (λ h k j. let g = read-facts s n t x k in quiet-fine n some s b _ _ j f h
       (learned-within (s .work) n some (table i h) (s .received) t x (h .ranged .received-sound) (g .txn) (g .object .low) (g .object .top) 8 (omega arith)) refl refl)
   accepted-fine (create t x) a = let i = here (create t x) refl a in
@@ -224,7 +225,7 @@ module _ (n : ℕ) (some : 1 ≤ n) (s : Areas) (b : Book) (f : Fine n s b) (v :
       through true s _ _ _ n _ (set-outcome s t x g w) a (i .size) (open-set n some s b i t x g w a)
       (λ h k j. set-fine n some s b i f h t x g w (set-facts s n t x g w k) _ (ap (λ (p : List ℕ). setOf t x g (wordOf p x g) w) (sym (i .full))) j)
   accepted-fine (flush t p image) a = let i = here (flush t p image) refl a in
-      through (eqb (length image) 129) s _ _ _ n _ (flush-outcome s t p image) a (i .size) (open-flush n some s b i t p image a)
+      through (eqb (length image) pageWords) s _ _ _ n _ (flush-outcome s t p image) a (i .size) (open-flush n some s b i t p image a)
       (λ h k j. let g = flush-facts s n t p image k in flushed-fine n some s b i f h t p (g .txn) (g .page) j)
   accepted-fine force a = let i = here force refl a in
       through true s _ _ _ n _ (force-outcome s) a (i .size) (open-force n some s b i a) (λ h k j. forced-fine n some s b i f h _ refl refl j)
@@ -232,6 +233,7 @@ module _ (n : ℕ) (some : 1 ≤ n) (s : Areas) (b : Book) (f : Fine n s b) (v :
       through true s _ _ _ n _ (store-outcome s p) a (i .size) (open-store-page n some s b i p a) (λ h k j. stored-fine n some s b i f h p (store-facts s n p k .page) j)
   accepted-fine empty a = let i = here empty refl a in
       through true s _ _ _ n _ (empty-outcome s) a (i .size) (open-empty n some s b i a) (λ h k j. emptied-fine n some s b i f h j)
+  accepted-fine (look q) a = rw (look-keeps s q) f
   accepted-fine pass a = let i = here pass refl a in
       through true s _ _ _ n _ (pass-outcome s) a (i .size) (open-pass n some s b i a) (λ h k j. quiet-fine n some s b b _ j f h (started-within (s .work) n some (table i h)) refl refl)
   accepted-fine step a = let i = here step refl a in
@@ -292,7 +294,7 @@ module _ (n l : ℕ) (some : 1 ≤ n) (most : n ≤ 256) (low : 1 ≤ l) (few : 
   unfolding formatted committedOf filtered pagesAfter
   start-fine =
       let s = formatted n l in
-      let w : length (s .work) ≡ 6 + 67 * n = length-set (zeros (workWords n l)) 0 2 ∙ length-replicate {A = ℕ} (workWords n l) 0 in
+      let w : length (s .work) ≡ workWords n l = length-set (zeros (workWords n l)) 0 2 ∙ length-replicate {A = ℕ} (workWords n l) 0 in
       let two : reopening s ≡ 2 = getD-set-same (zeros (workWords n l)) 0 2 0 (rw (length-replicate {A = ℕ} (workWords n l) 0) (omega arith)) in
       let p : length (s .stored) ≡ 129 * n = formatted-length n some in
       let g : length (s .log) ≡ 6 * l = length-replicate {A = ℕ} (6 * l) 0 in
@@ -311,6 +313,7 @@ module _ (n l : ℕ) (some : 1 ≤ n) (most : n ≤ 256) (low : 1 ≤ l) (few : 
         log-len = omega arith;
         counts-len = refl;
         work-len = w;
+        tables = (most, omega arith);
       })
       formatted-sound
       (clear-within (s .work) n some w (λ i h. getD-set-other (zeros (workWords n l)) 0 i 2 0 (λ z. omega arith) ∙ zero-at (workWords n l) i) (omega arith)

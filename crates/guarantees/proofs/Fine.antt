@@ -11,7 +11,7 @@ use Rattle.words.specs.Tests.{sum}
 use Rattle.words.specs.Bits.{bit-none}
 use Rattle.pages.specs.Soundness.{areaSound}
 use Rattle.records.specs.declared.Record.{Record}
-use Rattle.records.specs.Records.{recorded}
+use Rattle.records.specs.Records.{recorded, recordWords}
 use Rattle.records.specs.Changes.{changesLeft, reserved}
 use Rattle.records.specs.Effects.{effect}
 use Rattle.records.specs.Soundness.{recordsSound}
@@ -19,7 +19,7 @@ use Rattle.records.specs.Order.{openIn}
 use Rattle.record_laws.specs.RecordLaws.{log-sound-records, recorded-length}
 use Rattle.record_laws.specs.EffectLaws.{length-effect}
 use Rattle.areas.specs.Areas.{Areas, receivedCount, stableCount, withWork, appended}
-use Rattle.areas.specs.Layout.{activeAt}
+use Rattle.areas.specs.Layout.{activeAt, workWords}
 use Rattle.areas.specs.Tables.{at, has}
 use Rattle.areas.specs.Ranges.{pagesIn, recordsIn, countsInRange, inRange}
 use Rattle.areas.specs.Entry.{records, reopening}
@@ -44,7 +44,7 @@ pub record Fine (n : ℕ) (s : Areas) (b : Book) : Type 0 where
   pub room : reopening s ≡ 2 → receivedCount s + held (s .log) (receivedCount s) ≤ records s
 
 pub resized : (n : ℕ) (s s′ : Areas) → Sized s n → length (s′ .stored) ≡ length (s .stored) → length (s′ .copies) ≡ length (s .copies) → length (s′ .received) ≡ length (s .received)
-    → length (s′ .log) ≡ length (s .log) → length (s′ .counts) ≡ length (s .counts) → length (s′ .work) ≡ 6 + 67 * n → Sized s′ n
+    → length (s′ .log) ≡ length (s .log) → length (s′ .counts) ≡ length (s .counts) → length (s′ .work) ≡ workWords n (records s′) → Sized s′ n
 resized n s s′ z a c r g k w = record {
   count = ap pagesIn a ∙ z .count;
   low = z .low;
@@ -54,15 +54,16 @@ resized n s s′ z a c r g k w = record {
   received-len = r ∙ z .received-len;
   log-low = rw g (z .log-low);
   log-top = rw g (z .log-top);
-  log-len = g ∙ z .log-len ∙ ap (λ (m : ℕ). 6 * recordsIn m) (sym g);
+  log-len = g ∙ z .log-len ∙ ap (λ (m : ℕ). recordWords * recordsIn m) (sym g);
   counts-len = k ∙ z .counts-len;
   work-len = w;
+  tables = (z .top, omega arith);
 }
 
 pub in-range : (n : ℕ) (s : Areas) → 1 ≤ n → stableCount s ≤ receivedCount s → receivedCount s ≤ records s → Within (s .work) n → areaSound (s .received) n ≡ true → areaSound (s .copies) n ≡ true
     → recordsSound n (s .log) (receivedCount s) ≡ true → inRange s n (records s) ≡ true
 unfolding inRange countsInRange
-in-range n s some a b w r c g = rw (le-leb _ _ a, le-leb _ _ b, within-rows (s .work) n some w, r, c) g
+in-range n s some a b w r c g = rw (le-leb _ _ a, le-leb _ _ b, within-rows (s .work) n (records s) some w, r, c) g
 
 -- of an open store
 pub open-fine : (n : ℕ) → 1 ≤ n → (s : Areas) (b : Book) → OpenInv n s b → Sized s n → areaSound (s .stored) n ≡ true → Within (s .work) n → areaSound (s .received) n ≡ true

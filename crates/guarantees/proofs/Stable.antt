@@ -9,7 +9,7 @@ use lib.Seq.{getD-set-same, getD-set-other}
 use lib.Dec.{eqb, ltb}
 use borrow.Author.Tests.{ltb-true}
 use Rattle.words.specs.Tests.{by-bool}
-use Rattle.pages.specs.Geometry.{pageAt}
+use Rattle.pages.specs.Geometry.{pageAt, slotWords, pageWords}
 use Rattle.pages.specs.Objects.{copiedPage}
 use Rattle.page_laws.specs.Runs.{copied-inside, copied-outside}
 use Rattle.page_laws.specs.ViewLaws.{length-copied}
@@ -17,13 +17,12 @@ use Rattle.records.specs.declared.Record.{Record}
 use Rattle.records.specs.Records.{recordAt, recorded, abortedOf}
 use Rattle.records.specs.Effects.{undoing}
 use Rattle.areas.specs.declared.Check.{Check}
-use Rattle.areas.specs.Answers.{accepted}
+use Rattle.areas.specs.Answers.{accepted, Test}
 use Rattle.areas.specs.Areas.{Areas, Out, receivedCount, stableCount, appended}
 use Rattle.areas.specs.Layout.{reopeningPageAt}
 use Rattle.areas.specs.Tables.{at}
-use Rattle.areas.specs.Entry.{readiness}
 use Rattle.calls.specs.Calls.{Call, perform}
-use Rattle.calls.specs.Calls.Call.{begin, commit, abort, lockRead, lockWrite, read, create, setWord, flush, force, store, empty, pass, step, reopen, restep}
+use Rattle.calls.specs.Calls.Call.{begin, commit, abort, lockRead, lockWrite, read, create, setWord, flush, force, store, empty, pass, step, reopen, restep, look}
 use Rattle.calls.specs.Objects.{created, wordSet, flushed}
 use Rattle.calls.specs.Pass.{sweptPage}
 use Rattle.calls.specs.Reopening.{reopened, pageStored, reopeningOver}
@@ -39,6 +38,7 @@ use Rattle.acceptance.specs.Stability.{force-outcome, store-outcome, store-fact
 use Rattle.acceptance.specs.Pass.{pass-outcome, step-outcome, step-way, StepWay, scans, turns, sweeps, sweepMapOf}
 use Rattle.acceptance.specs.Reopening.{reopen-ran, restep-outcome, restepped}
 use Rattle.guarantees.specs.Stable.{PageStored, page, count, AtMostOne, OneStableStore}
+use Rattle.acceptance.specs.Looks.{look-outcome}
 
 -- a call that leaves stored pages and log
 same-stable : (s s′ : Areas) → s′ .stored ≡ s .stored → s′ .log ≡ s .log → AtMostOne s s′
@@ -108,7 +108,7 @@ one-page n s s′ p z l e c d = record {
 -- an accepted call, by what it went through: k says what it leaves
 went : (own : Bool) (s : Areas) (tests : ℕ → List Test) (o : Out) (k : ℕ → Out) → Outcome true own s tests o k → accepted (o .answer) ≡ true
     → ((n : ℕ) → Open s n → AtMostOne s (k n .after)) → AtMostOne s (o .after)
-went own s check o k h a f = let r = h .ran a in rw (r .gives) (f (r .n) (opened own s (r .n) (r .ready)))
+went own s tests o k h a f = let r = h .ran a in rw (r .gives) (f (r .n) (opened own s (r .n) (r .ready)))
 
 abort-behind : (n : ℕ) (s : Areas) (t : ℕ) → Open s n → AtMostOne s (aborted s n t)
 unfolding aborted appended
@@ -137,10 +137,10 @@ accepted-stable s (commit t) a = went true s _ _ _ (commit-outcome s t) a (λ n 
 accepted-stable s (abort t) a = went true s _ _ _ (abort-outcome s t) a (λ n o. abort-behind n s t o)
 accepted-stable s (lockRead t p) a = went true s _ _ _ (lock-read-outcome s t p) a (λ n o. same-stable s _ refl refl)
 accepted-stable s (lockWrite t p) a = went true s _ _ _ (lock-write-outcome s t p) a (λ n o. same-stable s _ refl refl)
-accepted-stable s (read t x buffer) a = went (eqb (length buffer) 8) s _ _ _ (read-outcome s t x buffer) a (λ n o. same-stable s _ refl refl)
+accepted-stable s (read t x buffer) a = went (eqb (length buffer) slotWords) s _ _ _ (read-outcome s t x buffer) a (λ n o. same-stable s _ refl refl)
 accepted-stable s (create t x) a = went true s _ _ _ (create-outcome s t x) a (λ n o. one-behind n s _ _ o refl refl)
 accepted-stable s (setWord t x f v) a = went true s _ _ _ (set-outcome s t x f v) a (λ n o. one-behind n s _ _ o refl refl)
-accepted-stable s (flush t p image) a = went (eqb (length image) 129) s _ _ _ (flush-outcome s t p image) a (λ n o. same-stable s _ refl refl)
+accepted-stable s (flush t p image) a = went (eqb (length image) pageWords) s _ _ _ (flush-outcome s t p image) a (λ n o. same-stable s _ refl refl)
 accepted-stable s force a = went true s _ _ _ (force-outcome s) a (λ n o. same-stable s _ refl refl)
 accepted-stable s (store p) a =
     let r = store-outcome s p .ran a in
@@ -149,6 +149,7 @@ accepted-stable s empty a = went true s _ _ _ (empty-outcome s) a (λ n o. same-
 accepted-stable s pass a = went true s _ _ _ (pass-outcome s) a (λ n o. same-stable s _ refl refl)
 accepted-stable s step a = let r = step-outcome s .ran a in step-stable (r .n) s (perform s step) (opened true s (r .n) (r .ready)) (step-way s (r .n) (perform s step) a (r .gives))
 accepted-stable s reopen a = let r = reopen-ran s a in rw (r .gives) (same-stable s _ refl refl)
+accepted-stable s (look q) a = went (q .own) s _ _ _ (look-outcome s q) a (λ n o. same-stable s _ refl refl)
 accepted-stable s restep a = let r = restep-outcome s .ran a in rw (r .gives) (restep-stable (r .n) s (entered false true s (r .n) (r .ready) .sized))
 
 pub one-stable-store : OneStableStore

@@ -95,9 +95,9 @@ no-rows : (w : List ℕ) → rowsInRange w [] ≡ true
 unfolding rowsInRange
 no-rows w = refl
 
-pub within-rows : (w : List ℕ) (n : ℕ) → 1 ≤ n → Within w n → workInRange w n ≡ true
+pub within-rows : (w : List ℕ) (n l : ℕ) → 1 ≤ n → Within w n → workInRange w n l ≡ true
 unfolding workInRange
-within-rows w n some h =
+within-rows w n l some h =
     more-rows w _ _ (λ i a b. fits-low n i (at w i) (h .fits i (omega arith)) (omega arith) .0 (omega arith))
     (more-rows w _ _ (λ i a b. fits-low n i (at w i) (h .fits i (omega arith)) (omega arith) .1 (omega arith))
     (more-rows w _ _ (λ i a b. fits-low n i (at w i) (h .fits i (omega arith)) (omega arith) .2 (omega arith))

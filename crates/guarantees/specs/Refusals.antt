@@ -4,10 +4,10 @@ use mathlib.Core.Path.{_≡_}
 use mathlib.Core.Bool.{Bool, true}
 use lib.ListN.{length}
 use lib.Dec.{eqb}
-use Rattle.pages.specs.Geometry.{pageWords}
+use Rattle.pages.specs.Geometry.{pageWords, slotWords}
 use Rattle.areas.specs.declared.Refusal.the-variants.{Malformed, LogFull}
 use Rattle.areas.specs.declared.Answer.the-variants.{Refused}
-use Rattle.calls.specs.Calls.{Call, perform, begin, commit, abort, lockRead, lockWrite, read, create, setWord, flush, force, store, empty, pass, step, reopen, restep}
+use Rattle.calls.specs.Calls.{Call, perform, begin, commit, abort, lockRead, lockWrite, read, create, setWord, flush, force, store, empty, pass, step, reopen, restep, look}
 use Rattle.book.specs.Demand.{Point, accepts}
 use Rattle.guarantees.specs.Points.{Always}
 
@@ -33,7 +33,7 @@ ownFits (commit t) = true
 ownFits (abort t) = true
 ownFits (lockRead t p) = true
 ownFits (lockWrite t p) = true
-ownFits (read t o buffer) = eqb (length buffer) 8
+ownFits (read t o buffer) = eqb (length buffer) slotWords
 ownFits (create t o) = true
 ownFits (setWord t o f v) = true
 ownFits (flush t p image) = eqb (length image) pageWords
@@ -44,6 +44,7 @@ ownFits pass = true
 ownFits step = true
 ownFits reopen = true
 ownFits restep = true
+ownFits (look q) = q .own
 
 -- 1, 'a length differs, or a working word is out of range': never but for the call's own buffers
 abbrev pub WellFormed : Point → Type 0

@@ -4,7 +4,7 @@ use Prim.Native.Nat.{ℕ}
 use mathlib.Core.Path.{_≡_, refl}
 use mathlib.Core.List.{List, [], _∷_}
 use lib.ListN.{take, replicate}
-use Rattle.areas.specs.Answers.{accepted, valueOf}
+use Rattle.areas.specs.Answers.{accepted, valueOf, verdict}
 use Rattle.areas.specs.Areas.{Areas, appended}
 use Rattle.calls.specs.Calls.{begin, commit, lockWrite, create, setWord, flush, force, pass, step, reopen, restep, perform}
 use Rattle.calls.specs.Formatting.{formatted, cut}
@@ -21,7 +21,7 @@ use Rattle.records.specs.Naming.{lastNaming}
 use Rattle.records.specs.Order.{openIn, logSound}
 use Rattle.records.specs.Recovery.{redone, undoneIn, recovered, recoverable}
 use Rattle.records.specs.Soundness.{wordSound, recordSound, recordsSound}
-use Rattle.areas.specs.Entry.{wellFormed, readiness}
+use Rattle.areas.specs.Entry.{wellFormed, called}
 use Rattle.areas.specs.Ranges.{lengthsFit, rowsInRange, workInRange, countsInRange, inRange}
 use Rattle.areas.specs.Tables.{greyed}
 use Rattle.calls.specs.Locks.{lockWriteTests, writeLocked, callLockWrite}
@@ -68,5 +68,5 @@ pub run-told : told (formatted 2 16) run
     ∷ 9 ∷ 0 ∷ 10 ∷ 11 ∷ 0 ∷ 12 ∷ 1 ∷ 2 ∷ 3 ∷ 4 ∷ 5 ∷ 6 ∷ 7 ∷ 8 ∷ 9 ∷ 10 ∷ 11 ∷ 12
     ∷ 0 ∷ 0 ∷ 0 ∷ 0 ∷ 1 ∷ 2
     ∷ 3 ∷ 2 ∷ 0 ∷ 0 ∷ []
-unfolding told withBit withoutBit mapOf slotsSet over fill copied upTo same all any count sum lowest isRefAt cleared takenSlot freedSlot releasedIn formattedPages refsSound slotZero freeZero pageSound areaSound changesIn changesLeft reserved effect undone undoing lastNaming openIn logSound redone undoneIn recovered recoverable wordSound recordSound recordsSound appended wellFormed readiness lengthsFit rowsInRange workInRange countsInRange inRange greyed perform formatted cut lockWriteTests writeLocked callLockWrite createTests created callCreate setTests pruned wordSet callSet flushTests flushed callFlush passTests unflagged passStarted callPass lowestGrey targetsGreyed scanned marked sweepMap freedMap advanced sweepTests sweptPage swept stepTests callStep reopenTests reopened callReopen restepTests pageStored reopeningOver callRestep roomBeyond forceTests callForce beginTests begun callBegin endedTables allFlushed commitTests committed callCommit
+unfolding told withBit withoutBit mapOf slotsSet over fill copied upTo same all any count sum lowest isRefAt cleared takenSlot freedSlot releasedIn formattedPages refsSound slotZero freeZero pageSound areaSound changesIn changesLeft reserved effect undone undoing lastNaming openIn logSound redone undoneIn recovered recoverable wordSound recordSound recordsSound appended wellFormed called verdict lengthsFit rowsInRange workInRange countsInRange inRange greyed perform formatted cut lockWriteTests writeLocked callLockWrite createTests created callCreate setTests pruned wordSet callSet flushTests flushed callFlush passTests unflagged passStarted callPass lowestGrey targetsGreyed scanned marked sweepMap freedMap advanced sweepTests sweptPage swept stepTests callStep reopenTests reopened callReopen restepTests pageStored reopeningOver callRestep roomBeyond forceTests callForce beginTests begun callBegin endedTables allFlushed commitTests committed callCommit
 run-told = refl
