@@ -6,14 +6,14 @@ use mathlib.Core.List.{List, [], _∷_}
 use lib.Dec.{eqb}
 use Rattle.words.specs.Tests.{if}
 use Rattle.words.specs.Bits.{bit}
-use Rattle.pages.specs.Geometry.{pageOf, slotOf, isRef}
+use Rattle.pages.specs.Geometry.{pageOf, slotOf, isRef, slotWords}
 use Rattle.pages.specs.Objects.{occupied, wordOf}
 use Rattle.records.specs.declared.Record.{Record}
 use Rattle.book.specs.Lines.{Line}
 
 -- word f of object o is a reference to x in page area a
 pub record Refers (a : List ℕ) (o f x : ℕ) : Type 0 where
-  pub word : f < 8
+  pub word : f < slotWords
   pub reference : isRef a o f ≡ true
   pub target : wordOf a o f ≡ x
   pub some : x ≡ 0 → ⊥

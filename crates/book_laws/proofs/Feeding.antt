@@ -8,7 +8,7 @@ use lib.ListN.{length}
 use lib.Dec.{eqb}
 use Rattle.words.specs.Tests.{or-r}
 use Rattle.records.specs.declared.Record.{Record}
-use Rattle.records.specs.Records.{isSweep, beginOf, sweepOf}
+use Rattle.records.specs.Records.{isSweep, beginOf, sweepOf, txnCount}
 use Rattle.book.specs.Lines.{Line, line, hasCommit}
 use Rattle.book.specs.Books.{Book, runs, countsCommitted, countsFull}
 use Rattle.book.specs.Feeding.{adds, begins}
@@ -28,7 +28,7 @@ alike-one l ls h = alike-past (l ∷ []) ls (each-cons h (each-nil (Idle ls)))
 
 module _ (b : Book) (inv : BookInv b) (t : ℕ) where
   -- begin
-  module _ (small : t < 16) (idle : b .running t ≡ 0) where
+  module _ (small : t < txnCount) (idle : b .running t ≡ 0) where
     pub begin-committed : Alike (begins b t .lines) (b .lines)
     begin-committed = alike-one (line (beginOf t) (b .begun + 1)) (b .lines) (record { uncommitted = refl; unswept = refl; out = none })
       where

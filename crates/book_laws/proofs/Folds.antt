@@ -9,7 +9,7 @@ use lib.ListN.{length, getD, replicate, length-replicate, getD-replicate, List·
 use lib.Dec.{eqb, ltb}
 use Rattle.words.specs.Tests.{by-bool, clash, or-false-r}
 use Rattle.words.specs.Bits.{bit, bit-none}
-use Rattle.pages.specs.Geometry.{pageOf, slotOf, pageAt, slotAt}
+use Rattle.pages.specs.Geometry.{pageOf, slotOf, pageAt, slotAt, pageWords, slotWords}
 use Rattle.pages.specs.Objects.{formattedPages}
 use Rattle.records.specs.declared.Record.{Record}
 use Rattle.records.specs.Soundness.{recordSound}
@@ -104,23 +104,23 @@ zero-at n i = elim (decLt i n) [ yes l ↦ getD-replicate n i 0 0 l | no l ↦ L
 zeros-view : (n x : ℕ) → view (zeros n) x ≡ blank
 unfolding blank
 zeros-view n x = view-by (zeros n) (λ y. blank) (λ y h. obj-ext _ _ (ap (λ (m : ℕ). bit m (slotOf y)) (zero-at n (pageAt (pageOf y))) ∙ bit-none (slotOf y))
-    (λ f. by-bool (ltb f 8) (λ e. rw (e, zero-at n (slotAt (pageOf y) (slotOf y) f))) (λ e. rw e))) refl x
+    (λ f. by-bool (ltb f slotWords) (λ e. rw (e, zero-at n (slotAt (pageOf y) (slotOf y) f))) (λ e. rw e))) refl x
 
 module _ (n : ℕ) (some : 1 ≤ n) where
-  zeros-length : length (zeros (129 * n)) ≡ 129 * n
-  zeros-length = length-replicate (129 * n) 0
+  zeros-length : length (zeros (pageWords * n)) ≡ pageWords * n
+  zeros-length = length-replicate (pageWords * n) 0
 
-  pub formatted-length : length (formattedPages n) ≡ 129 * n
+  pub formatted-length : length (formattedPages n) ≡ pageWords * n
   unfolding formattedPages
-  formatted-length = length-taken (zeros (129 * n)) 0 0 ∙ zeros-length
+  formatted-length = length-taken (zeros (pageWords * n)) 0 0 ∙ zeros-length
 
   pub formatted-view : (x : ℕ) → view (formattedPages n) x ≡ first x .object
   unfolding formattedPages
-  formatted-view x = occupy-view n (zeros (129 * n)) zeros-length 1 (omega arith) (omega arith) x ∙ rw (zeros-view (129 * n) x)
+  formatted-view x = occupy-view n (zeros (pageWords * n)) zeros-length 1 (omega arith) (omega arith) x ∙ rw (zeros-view (pageWords * n) x)
 
   -- the pages after the lines that pass, whose records are sound
   module _ (c : Line → Bool) where
-    pub after-length : (ls : List Line) → ((l : Line) → In l ls → c l ≡ true → recordSound n (l .entry) ≡ true) → length (pagesAfter n (filtered c ls)) ≡ 129 * n
+    pub after-length : (ls : List Line) → ((l : Line) → In l ls → c l ≡ true → recordSound n (l .entry) ≡ true) → length (pagesAfter n (filtered c ls)) ≡ pageWords * n
     unfolding pagesAfter filtered
     after-length [] h = formatted-length
     after-length (l ∷ ls) h = let ih = after-length ls (λ m i. h m (later i)) in by-bool (c l)

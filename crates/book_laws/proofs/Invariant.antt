@@ -10,7 +10,7 @@ use lib.Dec.{eqb}
 use borrow.Author.Tests.{eqb-true, eqb-false, eq-eqb, ne-eqb}
 use Rattle.words.specs.Tests.{by-bool, clash, or-cases}
 use Rattle.records.specs.declared.Record.{Record}
-use Rattle.records.specs.Records.{isBegin, isSweep, isEnd, beginOf, sweepOf}
+use Rattle.records.specs.Records.{isBegin, isSweep, isEnd, beginOf, sweepOf, txnCount}
 use Rattle.book.specs.Lines.{Line, line, hasEnd}
 use Rattle.book.specs.Books.{Stage, Book, blank, runs, surviving, stopped}
 use Rattle.book.specs.Feeding.{put, withLines, adds, learns, begins, forced, atStage, clearedSlots, sweepLines}
@@ -132,7 +132,7 @@ pub stage-inv : (b : Book) → BookInv b → (g : Stage) → BookInv (atStage b 
 stage-inv b inv g = beside-inv b inv (b .stable) (b .known) g (inv .stable)
 
 -- 'each begin line opens a transaction of its own'
-module _ (b : Book) (inv : BookInv b) (t : ℕ) (small : t < 16) (idle : b .running t ≡ 0) where
+module _ (b : Book) (inv : BookInv b) (t : ℕ) (small : t < txnCount) (idle : b .running t ≡ 0) where
   abbrev i : ℕ
   i = b .begun + 1
 

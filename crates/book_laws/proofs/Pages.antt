@@ -13,13 +13,14 @@ use Rattle.book_laws.specs.Seen.{counted, committedOf, seen, seenCommitt
 use Rattle.book_laws.specs.Keeping.{SoundLines}
 use Rattle.book_laws.proofs.Folds.{seen-agree, after-length, after-view}
 use Rattle.book_laws.proofs.Stops.{stableLines, stop-committed, stop-counts}
+use Rattle.pages.specs.Geometry.{pageWords}
 
 pub committed-of : (b : Book) → committedLines b ≡ committedOf (b .lines)
 unfolding committedLines committedOf
 committed-of b = refl
 
 module _ (n : ℕ) (some : 1 ≤ n) where
-  pub state-length : (ls : List Line) → SoundLines n ls → length (pagesAfter n (committedOf ls)) ≡ 129 * n
+  pub state-length : (ls : List Line) → SoundLines n ls → length (pagesAfter n (committedOf ls)) ≡ pageWords * n
   unfolding committedOf
   state-length ls h = after-length n some (counted ls) ls (λ l j e. h l j)
 
@@ -32,11 +33,11 @@ module _ (n : ℕ) (some : 1 ≤ n) where
     unfolding fullLines
     full-view x = after-view n some (countsFull b) (b .lines) (λ l j e. sound l j) x
 
-    pub committed-length : length (committedPages n b) ≡ 129 * n
+    pub committed-length : length (committedPages n b) ≡ pageWords * n
     unfolding committedLines
     committed-length = after-length n some (countsCommitted b) (b .lines) (λ l j e. sound l j)
 
-    pub full-length : length (fullPages n b) ≡ 129 * n
+    pub full-length : length (fullPages n b) ≡ pageWords * n
     unfolding fullLines
     full-length = after-length n some (countsFull b) (b .lines) (λ l j e. sound l j)
 

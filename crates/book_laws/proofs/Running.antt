@@ -10,6 +10,7 @@ use Rattle.words.specs.Tests.{any, by-bool, and-split, any-intro, any-elim}
 use Rattle.book.specs.Books.{Book, runs}
 use Rattle.book.specs.Feeding.{put}
 use Rattle.book_laws.specs.Keeping.{Runs, BookInv}
+use Rattle.records.specs.Records.{txnCount}
 
 pub put-same : {A : Type 0} (f : ℕ → A) (t : ℕ) (v : A) → put f t v t ≡ v
 put-same f t v = rw (eq-eqb t t refl)
@@ -23,11 +24,11 @@ bool-same false true p q = q refl
 bool-same false false p q = refl
 
 -- a transaction of the store that runs an own transaction
-pub runs-of : (b : Book) (t i : ℕ) → t < 16 → (i ≡ 0 → ⊥) → b .running t ≡ i → runs b i ≡ true
+pub runs-of : (b : Book) (t i : ℕ) → t < txnCount → (i ≡ 0 → ⊥) → b .running t ≡ i → runs b i ≡ true
 unfolding runs
 runs-of b t i l n e = rw (ne-eqb i 0 n) (any-intro (λ u. eqb (b .running u) i) 16 t l (eq-eqb (b .running t) i e))
 
-pub runs-by : {A : Type 0} (b : Book) (i : ℕ) → runs b i ≡ true → ((t : ℕ) → t < 16 → b .running t ≡ i → (i ≡ 0 → ⊥) → A) → A
+pub runs-by : {A : Type 0} (b : Book) (i : ℕ) → runs b i ≡ true → ((t : ℕ) → t < txnCount → b .running t ≡ i → (i ≡ 0 → ⊥) → A) → A
 unfolding runs
 runs-by b i h k = let p = and-split (not (eqb i 0)) (any (λ u. eqb (b .running u) i) 16) h in
     any-elim (λ u. eqb (b .running u) i) 16 (p .1) (λ t l e. k t l (eqb-true (b .running t) i e) (eqb-false i 0 (not-true (eqb i 0) (p .0))))
@@ -42,8 +43,8 @@ pub runs-same : (a b : Book) (i : ℕ) → ((t : ℕ) → (i ≡ 0 → ⊥) → 
 runs-same a b i p q = bool-same (runs a i) (runs b i) (λ e. runs-by a i e (λ t l k n. runs-of b t i l n (p t n k))) (λ e. runs-by b i e (λ t l k n. runs-of a t i l n (q t n k)))
 
 module _ (b : Book) (inv : BookInv b) where
-  pub txn-small : (t : ℕ) → Runs b t → t < 16
-  txn-small t r = elim (decLt t 16) [ yes l ↦ l | no l ↦ absurd (r (inv .few t (omega arith))) ]
+  pub txn-small : (t : ℕ) → Runs b t → t < txnCount
+  txn-small t r = elim (decLt t txnCount) [ yes l ↦ l | no l ↦ absurd (r (inv .few t (omega arith))) ]
 
   pub runs-it : (t : ℕ) → Runs b t → runs b (b .running t) ≡ true
   runs-it t r = runs-of b t (b .running t) (txn-small t r) r refl

@@ -17,6 +17,7 @@ use Rattle.records.specs.Records.{sweepOf}
 use Rattle.views.proofs.Slots.{within, released-occ}
 use Rattle.book.specs.Lines.{Line, line}
 use Rattle.book.specs.Feeding.{clearedSlots, sweepLines}
+use Rattle.pages.specs.Geometry.{pageWords, slotCount}
 
 -- a map of a test, by its lowest bit and the rest; the map of a map's bits is the map
 map-same : (f g : ℕ → Bool) (n : ℕ) → ((k : ℕ) → k < n → f k ≡ g k) → mapOf f n ≡ mapOf g n
@@ -43,11 +44,11 @@ map-bits (suc k) m h =
     (λ e. rw e (let z = eqb-false (m % 2) 1 e in omega arith)))
 
 module _ (before after : List ℕ) where
-  pub cleared-is : (p m : ℕ) → m < 65536 → ((s : ℕ) → s < 16 → (taken before p s && not (taken after p s)) ≡ bit m s) → clearedSlots before after p ≡ m
+  pub cleared-is : (p m : ℕ) → m < 65536 → ((s : ℕ) → s < slotCount → (taken before p s && not (taken after p s)) ≡ bit m s) → clearedSlots before after p ≡ m
   unfolding clearedSlots
   cleared-is p m h k = map-same (λ s. taken before p s && not (taken after p s)) (bit m) 16 k ∙ map-bits 16 m h
 
-  pub cleared-none : (p : ℕ) → ((s : ℕ) → s < 16 → (taken before p s && not (taken after p s)) ≡ false) → clearedSlots before after p ≡ 0
+  pub cleared-none : (p : ℕ) → ((s : ℕ) → s < slotCount → (taken before p s && not (taken after p s)) ≡ false) → clearedSlots before after p ≡ 0
   cleared-none p h = cleared-is p 0 (omega arith) (λ s l. h s l ∙ sym (bit-none s))
 
   pub sweep-none : (ls : List Line) (k : ℕ) → ((q : ℕ) → q < k → clearedSlots before after q ≡ 0) → sweepLines before after ls k ≡ ls
@@ -77,8 +78,8 @@ pub sweep-kept : (before after : List ℕ) (ls : List Line) (n : ℕ) → ((q : 
 sweep-kept before after ls n h = sweep-none before after ls n (λ q l. cleared-none before after q (λ s k. rw (h q l) (never (taken before q s))))
 
 -- where slots of page p that were taken are released
-pub sweep-released : (n : ℕ) (a : List ℕ) → length a ≡ 129 * n → (ls : List Line) (p m : ℕ) → p < n → m < 65536 → (m ≡ 0 → ⊥)
-    → ((s : ℕ) → s < 16 → bit m s ≡ true → taken a p s ≡ true) → sweepLines a (released a p m) ls n ≡ line (sweepOf p m) 0 ∷ ls
+pub sweep-released : (n : ℕ) (a : List ℕ) → length a ≡ pageWords * n → (ls : List Line) (p m : ℕ) → p < n → m < 65536 → (m ≡ 0 → ⊥)
+    → ((s : ℕ) → s < slotCount → bit m s ≡ true → taken a p s ≡ true) → sweepLines a (released a p m) ls n ≡ line (sweepOf p m) 0 ∷ ls
 sweep-released n a len ls p m hp hm some inside = sweep-one a (released a p m) ls p m
     (cleared-is a (released a p m) p m hm (λ s l. there s l)) some n hp
     (λ q l d. cleared-none a (released a p m) q (λ s k. elsewhere q s d))
@@ -86,7 +87,7 @@ sweep-released n a len ls p m hp hm some inside = sweep-one a (released a p m) l
     now : (q s : ℕ) → taken (released a p m) q s ≡ (taken a q s && not (within p m 16 q s))
     now q s = released-occ n a len p m hp 16 (omega arith) q s
 
-    there : (s : ℕ) → s < 16 → (taken a p s && not (taken (released a p m) p s)) ≡ bit m s
+    there : (s : ℕ) → s < slotCount → (taken a p s && not (taken (released a p m) p s)) ≡ bit m s
     there s l = rw (now p s, eq-eqb p p refl, lt-ltb s 16 l) (by-bool (bit m s)
         (λ e. rw (e, inside s l e))
         (λ e. rw e (stays (taken a p s))))

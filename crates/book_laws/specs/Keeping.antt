@@ -8,7 +8,7 @@ use lib.ListN.{length}
 use lib.Dec.{eqb}
 use Rattle.pages.specs.Geometry.{pageOf}
 use Rattle.records.specs.declared.Record.{Record}
-use Rattle.records.specs.Records.{isBegin, isChange, isEnd, isSweep}
+use Rattle.records.specs.Records.{isBegin, isChange, isEnd, isSweep, txnCount}
 use Rattle.records.specs.Soundness.{recordSound}
 use Rattle.words.specs.Tests.{if}
 use Rattle.calls.specs.Calls.{Call, begin, commit, abort, lockRead, lockWrite, read, create, setWord, flush, force, store, empty, pass, step, reopen, restep, look}
@@ -63,7 +63,7 @@ changesSince t (l ∷ ls) = let on = changesSince t ls in if (isBegin (l .entry)
 
 pub record BookInv (b : Book) : Type 0 where
   pub distinct : (t u : ℕ) → Runs b t → b .running t ≡ b .running u → t ≡ u
-  pub few : (t : ℕ) → 16 ≤ t → b .running t ≡ 0
+  pub few : (t : ℕ) → txnCount ≤ t → b .running t ≡ 0
   pub young : (t : ℕ) → b .running t ≤ b .begun
   pub unended : (t : ℕ) → Runs b t → hasEnd (b .running t) (b .lines) ≡ false
   pub lines : Each (LineOk b) (b .lines)
@@ -81,7 +81,7 @@ pub record Writers (b : Book) (wr : ℕ → ℕ → Bool) : Type 0 where
 
 -- what an accepted call finds in the book
 abbrev pub Expects : Book → Call → Type 0
-Expects b (begin t) = (t < 16) × (b .running t ≡ 0)
+Expects b (begin t) = (t < txnCount) × (b .running t ≡ 0)
 Expects b (commit t) = Runs b t
 Expects b (abort t) = Runs b t
 Expects b (lockRead t p) = Unit

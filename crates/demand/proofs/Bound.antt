@@ -26,6 +26,7 @@ use Rattle.demand.proofs.State.{machine, received, LogInv, OpenInv}
 use Rattle.demand.proofs.OneRecord.{Appends, log-after}
 use Rattle.demand.proofs.Change.{full-shown}
 use Rattle.demand.proofs.Shared.{full-ext}
+use Rattle.records.specs.Records.{txnCount}
 
 -- record r with its line l; w: the working words after it, b′: the book
 pub record Bounding (n : ℕ) (s : Areas) (b : Book) (r : Record) (l : Line) (w : List ℕ) (b′ : Book) : Type 0 where
@@ -37,7 +38,7 @@ pub record Bounding (n : ℕ) (s : Areas) (b : Book) (r : Record) (l : Line) (w 
   pub order : inOrder (openIn (s .log) (receivedCount s)) r ≡ true
   pub still : effect (s .received) r ≡ s .received
   pub full : (x : ℕ) → seenFull b′ x .object ≡ seenFull b x .object
-  pub opens : (u : ℕ) → u < 16 → bit (openNext (openIn (s .log) (receivedCount s)) r) u ≡ locksOf w n .act u
+  pub opens : (u : ℕ) → u < txnCount → bit (openNext (openIn (s .log) (receivedCount s)) r) u ≡ locksOf w n .act u
 
 module _ (n : ℕ) (some : 1 ≤ n) (s : Areas) (b : Book) (i : OpenInv n s b) (h : Open s n) (r : Record) (l : Line) (w : List ℕ) (b′ : Book) (c : Bounding n s b r l w b′) where
   abbrev s′ : Areas

@@ -11,7 +11,7 @@ use Rattle.words.specs.Tests.{or-r}
 use Rattle.words.specs.Bits.{bit}
 use Rattle.pages.specs.Geometry as Geometry
 use Rattle.records.specs.declared.Record.{Record}
-use Rattle.records.specs.Records.{isSweep}
+use Rattle.records.specs.Records.{isSweep, txnCount}
 use Rattle.records.specs.Effects.{effect}
 use Rattle.records.specs.Soundness.{recordSound, namesObject}
 use Rattle.records.specs.Order.{openIn, openNext, inOrder}
@@ -87,7 +87,7 @@ bookAfter b t r k = record { lines = line r (b .running t) ∷ b .lines; stable 
 pub record Changing (n : ℕ) (s : Areas) (b : Book) (t : ℕ) (r : Record) (w : List ℕ) : Type 0 where
   pub kind : Change r
   pub txn : r .txn ≡ t
-  pub small : t < 16
+  pub small : t < txnCount
   pub active : isActive (s .work) t ≡ true
   pub ok : recordSound n r ≡ true
   pub room : Room s 2
@@ -184,7 +184,7 @@ module _ (n : ℕ) (some : 1 ≤ n) (s : Areas) (b : Book) (i : OpenInv n s b) (
     order = order;
   }
 
-  open-after : (u : ℕ) → u < 16 → bit (openNext (openIn (s .log) (receivedCount s)) r) u ≡ locksOf w n .act u
+  open-after : (u : ℕ) → u < txnCount → bit (openNext (openIn (s .log) (receivedCount s)) r) u ≡ locksOf w n .act u
   open-after u l = ap (λ (m : ℕ). bit m u) (change-open (openIn (s .log) (receivedCount s)) r (c .kind)) ∙ i .log .open-ones u l ∙ sym (act-same u)
 
   inv-after : Recovery.Inv (i .base) (logOf (λ x. seenFull b′ x .object) (λ x. seenCommitted b′ x .object) (locksOf w n .wr) (locksOf w n .act) (r ∷ received s))

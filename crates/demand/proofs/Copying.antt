@@ -7,7 +7,7 @@ use lib.ListN.{length}
 use lib.Dec.{eqb, ltb}
 use borrow.Author.Tests.{ltb-true, le-leb}
 use Rattle.words.specs.Tests.{by-bool}
-use Rattle.pages.specs.Geometry.{pageOf}
+use Rattle.pages.specs.Geometry.{pageOf, pageWords, slotWords}
 use Rattle.pages.specs.Objects.{copiedPage}
 use Rattle.page_laws.specs.ViewLaws.{occupied-copied, word-copied}
 use Rattle.collector.specs.Objects as Objects
@@ -15,14 +15,14 @@ use Rattle.collector.specs.State.{mix}
 use Rattle.views.specs.View.{view, shown}
 use Rattle.views.proofs.Effects.{obj-ext, view-by}
 
-module _ (n : ℕ) (from to : List ℕ) (p : ℕ) (lf : length from ≡ 129 * n) (lt : length to ≡ 129 * n) (hp : p < n) where
+module _ (n : ℕ) (from to : List ℕ) (p : ℕ) (lf : length from ≡ pageWords * n) (lt : length to ≡ pageWords * n) (hp : p < n) where
   abbrev here : ℕ → Bool
   here x = eqb (Objects.pageOf x) p
 
   word-at : (x f : ℕ) → shown (copiedPage from to p) x .word f ≡ cond (here x) (shown from x) (shown to x) .word f
   unfolding Objects.pageOf
-  word-at x f = by-bool (ltb f 8)
-      (λ l. rw (l, word-copied n from to p lf lt hp x f (ltb-true f 8 l)) (by-bool (eqb (pageOf x) p) (λ e. rw (e, l) refl) (λ e. rw (e, l) refl)))
+  word-at x f = by-bool (ltb f slotWords)
+      (λ l. rw (l, word-copied n from to p lf lt hp x f (ltb-true f slotWords l)) (by-bool (eqb (pageOf x) p) (λ e. rw (e, l) refl) (λ e. rw (e, l) refl)))
       (λ l. rw l (by-bool (eqb (pageOf x) p) (λ e. rw (e, l) refl) (λ e. rw (e, l) refl)))
 
   occ-at : (x : ℕ) → shown (copiedPage from to p) x .occ ≡ cond (here x) (shown from x) (shown to x) .occ

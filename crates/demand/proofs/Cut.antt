@@ -8,7 +8,7 @@ use mathlib.Core.List.{List, [], _∷_, _++_}
 use lib.ListN.{length, getD, take, drop, replicate, length-replicate, List·getD-eq-default}
 use lib.Seq.{getD-set-same, set-out}
 use Rattle.words.specs.Tests.{all-same}
-use Rattle.records.specs.Records.{made, recordAt}
+use Rattle.records.specs.Records.{made, recordAt, recordWords}
 use Rattle.records.specs.Soundness.{recordSound}
 use Rattle.records.specs.Order.{openIn, inOrder, logSound}
 use Rattle.areas.specs.Areas.{Areas, stableCount}
@@ -44,10 +44,10 @@ module _ (s : Areas) where
 
   cut-record : (i : ℕ) → i < stableCount s → recordAt (cut s .log) i ≡ recordAt (s .log) i
   unfolding cut
-  cut-record i l = λ z. made (word (6 * i) (omega arith) z) (word (6 * i + 1) (omega arith) z) (word (6 * i + 2) (omega arith) z) (word (6 * i + 3) (omega arith) z) (word (6 * i + 4) (omega arith) z) (word (6 * i + 5) (omega arith) z)
+  cut-record i l = λ z. made (word (recordWords * i) (omega arith) z) (word (recordWords * i + 1) (omega arith) z) (word (recordWords * i + 2) (omega arith) z) (word (recordWords * i + 3) (omega arith) z) (word (recordWords * i + 4) (omega arith) z) (word (recordWords * i + 5) (omega arith) z)
     where
-      word : (j : ℕ) → j < 6 * stableCount s → getD (cut s .log) j 0 ≡ getD (s .log) j 0
-      word j m = kept-before (6 * stableCount s) (s .log) j m
+      word : (j : ℕ) → j < recordWords * stableCount s → getD (cut s .log) j 0 ≡ getD (s .log) j 0
+      word j m = kept-before (recordWords * stableCount s) (s .log) j m
 
   cut-stable : stable (cut s) ≡ stable s
   cut-stable = rw cut-count (recs-same (cut s .log) (s .log) (stableCount s) cut-record)

@@ -11,7 +11,7 @@ use borrow.Author.Tests.{eqb-false, eqb-true, ne-eqb, not-true}
 use Rattle.words.specs.Tests.{by-bool, clash}
 use Rattle.words.specs.Bits.{bit, withoutBit, bit-without}
 use Rattle.areas.specs.Areas.{Areas}
-use Rattle.areas.specs.Layout.{reopeningAt}
+use Rattle.areas.specs.Layout.{reopeningAt, tableWords}
 use Rattle.areas.specs.Tables.{at}
 use Rattle.calls.specs.Transactions.{endedTables}
 use Rattle.book.specs.Books.{Book}
@@ -24,6 +24,7 @@ use Rattle.shown.proofs.Ended.{ended-beside, ended-locks, ended-tables}
 use Rattle.book_laws.specs.Keeping.{Runs, Writers, openly}
 use Rattle.book_laws.proofs.Running.{put-same, put-other}
 use Rattle.demand.proofs.State.{OpenInv}
+use Rattle.records.specs.Records.{txnCount}
 
 both-ways : (a b : Bool) → (a && not b) ≡ (not b and a)
 unfolding _and_
@@ -32,7 +33,7 @@ both-ways true false = refl
 both-ways false true = refl
 both-ways false false = refl
 
-module _ (n : ℕ) (s : Areas) (b : Book) (i : OpenInv n s b) (len : length (s .work) ≡ 6 + 67 * n) (t : ℕ) (small : t < 16) where
+module _ (n : ℕ) (s : Areas) (b : Book) (i : OpenInv n s b) (len : length (s .work) ≡ tableWords n) (t : ℕ) (small : t < txnCount) where
   abbrev w : List ℕ
   w = endedTables (s .work) n t
 
@@ -49,7 +50,7 @@ module _ (n : ℕ) (s : Areas) (b : Book) (i : OpenInv n s b) (len : length (s .
   end-word = reopening-kept (ended-beside (s .work) n t) n (omega arith) .0 ∙ i .word
 
   -- the mask of open transactions
-  pub end-opens : (m : ℕ) → ((u : ℕ) → u < 16 → bit m u ≡ locksOf (s .work) n .act u) → (u : ℕ) → u < 16 → bit (withoutBit m t) u ≡ locksOf w n .act u
+  pub end-opens : (m : ℕ) → ((u : ℕ) → u < txnCount → bit m u ≡ locksOf (s .work) n .act u) → (u : ℕ) → u < txnCount → bit (withoutBit m t) u ≡ locksOf w n .act u
   end-opens m h u l = bit-without m t u ∙ ap (λ (z : Bool). z && not (eqb u t)) (h u l) ∙ both-ways (locksOf (s .work) n .act u) (eqb u t) ∙ sym (act-after u)
 
   -- b′: the book then

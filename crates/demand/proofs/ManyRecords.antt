@@ -25,6 +25,7 @@ use Rattle.book_laws.specs.Seen.{Seen, counted, committedOf, seen}
 use Rattle.book_laws.specs.Striking.{entries}
 use Rattle.book_laws.proofs.Committed.{Alike}
 use Rattle.demand.proofs.State.{received, stable, logged, LogInv}
+use Rattle.records.specs.Records.{txnCount}
 
 pub record Many (n : ℕ) (s : Areas) (b : Book) (base : ℕ → Obj) (k : ℕ) (s′ : Areas) (b′ : Book) : Type 0 where
   -- the words
@@ -71,7 +72,7 @@ module _ (n : ℕ) (s : Areas) (b : Book) (base : ℕ → Obj) (i : LogInv n s b
       (λ d e. rw (e, m .before d .lines) (i .leads d (within j d l e)))
 
   pub log-many : Recovery.Inv base (logged n s′ b′)
-      → ((t : ℕ) → t < 16 → bit (openIn (s′ .log) (receivedCount s′)) t ≡ locksOf (s′ .work) n .act t)
+      → ((t : ℕ) → t < txnCount → bit (openIn (s′ .log) (receivedCount s′)) t ≡ locksOf (s′ .work) n .act t)
       → SameCells (received s′) (view (s′ .copies)) base
       → LogInv n s′ b′ base
   log-many h opens copies = record {

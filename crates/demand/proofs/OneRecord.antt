@@ -9,7 +9,7 @@ use lib.ListN.{length, take, drop, set}
 use lib.Seq.{getD-set-same, getD-set-other}
 use Rattle.words.specs.Bits.{bit}
 use Rattle.records.specs.declared.Record.{Record}
-use Rattle.records.specs.Records.{recordAt, recorded}
+use Rattle.records.specs.Records.{recordAt, recorded, recordWords, txnCount}
 use Rattle.record_laws.specs.RecordLaws.{recorded-same, recorded-other, open-append}
 use Rattle.records.specs.Soundness.{recordSound}
 use Rattle.records.specs.Order.{openIn, openNext, inOrder, logSound}
@@ -42,7 +42,7 @@ unfolding committedOf
 machine-leads n some s b i ok = leads-out n some (counted (b .lines)) (b .lines) ok (sound (machine n s b) i .committed) (i .whole .wf)
 
 -- the records of a log with r behind the first c
-module _ (g : List ℕ) (c : ℕ) (r : Record) (long : 6 * c + 6 ≤ length g) where
+module _ (g : List ℕ) (c : ℕ) (r : Record) (long : recordWords * c + recordWords ≤ length g) where
   older : (i : ℕ) → i < c → recordAt (recorded g c r) i ≡ recordAt g i
   older i l = recorded-other g c r i (λ z. omega arith)
 
@@ -69,7 +69,7 @@ pub record Appends (n : ℕ) (s : Areas) (b : Book) (r : Record) (l : Line) (s�
 
 module _ (n : ℕ) (some : 1 ≤ n) (s : Areas) (b : Book) (base : ℕ → Obj) (i : LogInv n s b base) (z : Open s n) (r : Record) (l : Line) (s′ : Areas) (b′ : Book)
     (a : Appends n s b r l s′ b′) where
-  long : 6 * receivedCount s + 6 ≤ length (s .log)
+  long : recordWords * receivedCount s + recordWords ≤ length (s .log)
   long = let e = z .sized .log-len in let q = a .room in omega arith
 
   count : receivedCount s′ ≡ receivedCount s + 1
@@ -102,7 +102,7 @@ module _ (n : ℕ) (some : 1 ≤ n) (s : Areas) (b : Book) (base : ℕ → Obj) 
   -- the log's part of the invariant after it
   pub log-after : Recovery.Inv base (logOf (λ x. seenFull b′ x .object) (λ x. seenCommitted b′ x .object) (locksOf (s′ .work) n .wr) (locksOf (s′ .work) n .act) (r ∷ received s))
       → Collector.Inv (machine n s′ b′) → SoundLines n (b′ .lines)
-      → ((t : ℕ) → t < 16 → bit (openNext (openIn (s .log) (receivedCount s)) r) t ≡ locksOf (s′ .work) n .act t)
+      → ((t : ℕ) → t < txnCount → bit (openNext (openIn (s .log) (receivedCount s)) r) t ≡ locksOf (s′ .work) n .act t)
       → SameCells (r ∷ received s) (view (s′ .copies)) base
       → LogInv n s′ b′ base
   log-after j m ok opens copies = let h : Recovery.Inv base (logged n s′ b′) = rw received-more j in record {

@@ -13,7 +13,7 @@ use Rattle.pages.specs.Objects.{wordOf}
 use Rattle.areas.specs.declared.Check.the-variants.{Accept}
 use Rattle.areas.specs.Answers.{accepted, verdict}
 use Rattle.areas.specs.Areas.{Areas, Out, withWork}
-use Rattle.areas.specs.Layout.{reopeningAt, phaseAt, passPageAt, stepsAt, tableWords}
+use Rattle.areas.specs.Layout.{reopeningAt, phaseAt, passPageAt, stepsAt, tableWords, stepsTop}
 use Rattle.areas.specs.Tables.{at, isMarking, withPass, stepsNext}
 use Rattle.calls.specs.Calls.{pass, step}
 use Rattle.calls.specs.Pass.{unflagged, passStarted, callPass, lowestGrey, scanned, advanced, sweepTests, callStep}
@@ -44,6 +44,7 @@ use Rattle.demand.proofs.State.{machine, OpenInv}
 use Rattle.demand.proofs.Holds.{sweeping-phase}
 use Rattle.demand.proofs.Unlogged.{open-unlocked}
 use Rattle.page_laws.specs.Places.{object-range}
+use Rattle.pages.specs.Geometry.{objectCount}
 
 -- a pass record written leaves the words of a reopening
 pass-beside : (w : List ℕ) (phase page steps : ℕ) → Beside 2 5 w (withPass w phase page steps)
@@ -52,9 +53,9 @@ pass-beside w phase page steps = later (wider (beside-set w 2 phase) (omega arit
 
 start-beside : (w : List ℕ) (n : ℕ) → Beside 2 (tableWords n) w (passStarted w n)
 unfolding passStarted unflagged
-start-beside w n = later (wider (beside-over _ w _ (16 * n)) (omega arith) (omega arith))
-    (later (wider (beside-over _ _ _ (16 * n)) (omega arith) (omega arith))
-    (later (wider (beside-fill _ _ _ (16 * n)) (omega arith) (omega arith)) (wider (pass-beside _ 1 0 0) (omega arith) (omega arith))))
+start-beside w n = later (wider (beside-over _ w _ (objectCount n)) (omega arith) (omega arith))
+    (later (wider (beside-over _ _ _ (objectCount n)) (omega arith) (omega arith))
+    (later (wider (beside-fill _ _ _ (objectCount n)) (omega arith) (omega arith)) (wider (pass-beside _ 1 0 0) (omega arith) (omega arith))))
 
 -- a step that leaves the received pages adds no line
 pub step-adds-none : (n : ℕ) (b : Book) (a : List ℕ) → fed n b step a a ≡ b
@@ -82,14 +83,14 @@ module _ (n : ℕ) (some : 1 ≤ n) (s : Areas) (b : Book) (i : OpenInv n s b) (
     phase : phaseOf (at (s .work) phaseAt) ≡ M.marking
     phase = rw (eqb-true (at (s .work) phaseAt) 1 marks) refl
 
-    pub scan-kept : leb (lowestGrey (s .work) n) (16 * n) ≡ true → OpenInv n (scanning s n .after) b
+    pub scan-kept : leb (lowestGrey (s .work) n) (objectCount n) ≡ true → OpenInv n (scanning s n .after) b
     scan-kept g =
         let o = lowestGrey (s .work) n in
         let ok = lowest-object (s .work) n g in
         let r = object-range n o ok in
-        let refs : (f : ℕ) → f < 4 → wordOf (s .copies) o f ≤ 16 * n = λ f l. reference (s .copies) n (h .ranged .copies-sound) o f (r .0) (r .1) l in
+        let refs : (f : ℕ) → f < 4 → wordOf (s .copies) o f ≤ objectCount n = λ f l. reference (s .copies) n (h .ranged .copies-sound) o f (r .0) (r .1) l in
         let facts : MarkFacts (machine n s b) o = record { phase = phase; colour = lowest-grey (s .work) n g } in
-        let room : at (s .work) stepsAt < 17 * n = let k = steps-marking (machine n s b) o facts (i .collector) in omega arith in
+        let room : at (s .work) stepsAt < stepsTop n = let k = steps-marking (machine n s b) o facts (i .collector) in omega arith in
         let len = h .sized .work-len in
         let l = scan-locks n (s .copies) (s .work) o refs len ok some room in
         let t = scan-tables n (s .copies) (s .work) o refs len ok some room in
@@ -100,11 +101,11 @@ module _ (n : ℕ) (some : 1 ≤ n) (s : Areas) (b : Book) (i : OpenInv n s b) (
         ∙ scanned-low n (s .copies) (s .work) o refs len ok reopeningAt (omega arith))
         l (ap (λ (a : Tables). a .kn) t)
 
-    pub turn-kept : leb (lowestGrey (s .work) n) (16 * n) ≡ false → OpenInv n (turning s n .after) b
+    pub turn-kept : leb (lowestGrey (s .work) n) (objectCount n) ≡ false → OpenInv n (turning s n .after) b
     turn-kept g =
         let w = s .work in
-        let room : at w stepsAt < 17 * n =
-        let e = i .collector .counted .scanned phase in let k = countb-most (16 * n) (λ x. isBlack (machine n s b .pass .col (suc x))) in omega arith in
+        let room : at w stepsAt < stepsTop n =
+        let e = i .collector .counted .scanned phase in let k = countb-most (objectCount n) (λ x. isBlack (machine n s b .pass .col (suc x))) in omega arith in
         let len = h .sized .work-len in
         let l = moved-locks n w 2 0 (stepsNext w n) len in
         let t = moved-tables n w 2 0 (stepsNext w n) len in
@@ -115,9 +116,9 @@ module _ (n : ℕ) (some : 1 ≤ n) (s : Areas) (b : Book) (i : OpenInv n s b) (
 
   -- sweeping
   module _ (phase : phaseOf (at (s .work) phaseAt) ≡ M.sweeping) where
-    pub sweep-room : (at (s .work) stepsAt < 17 * n) ⊎ (at (s .work) passPageAt + 1 < n → ⊥)
+    pub sweep-room : (at (s .work) stepsAt < stepsTop n) ⊎ (at (s .work) passPageAt + 1 < n → ⊥)
     sweep-room = elim (decLt (at (s .work) passPageAt + 1) n) [
-      | yes l ↦ inl (let e = i .collector .counted .turned phase in let k = countb-most (16 * n) (λ x. isBlack (machine n s b .pass .col (suc x))) in omega arith)
+      | yes l ↦ inl (let e = i .collector .counted .turned phase in let k = countb-most (objectCount n) (λ x. isBlack (machine n s b .pass .col (suc x))) in omega arith)
       | no l ↦ inr l
     ]
 

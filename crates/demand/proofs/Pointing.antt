@@ -9,7 +9,7 @@ use lib.ListN.{length}
 use lib.Dec.{eqb}
 use borrow.Author.Tests.{eqb-true, ltb-true}
 use Rattle.words.specs.Tests.{by-bool}
-use Rattle.pages.specs.Geometry.{isRef, isRefAt}
+use Rattle.pages.specs.Geometry.{isRef, isRefAt, objectCount, slotWords}
 use Rattle.pages.specs.Objects.{occupied, wordOf}
 use Rattle.records.specs.declared.Record.{Record}
 use Rattle.book.specs.Lines.{Line, filtered, pagesAfter}
@@ -33,7 +33,7 @@ unfolding isRefAt O.isRef
 same-ref a b o f = refl
 
 -- what an edge of the machine says
-pub edge-word : {A : Type 0} (b : Obj) (x : ℕ) → points b x ≡ true → ((f : ℕ) → f < 8 → O.isRef b f ≡ true → b .word f ≡ x → A) → A
+pub edge-word : {A : Type 0} (b : Obj) (x : ℕ) → points b x ≡ true → ((f : ℕ) → f < slotWords → O.isRef b f ≡ true → b .word f ≡ x → A) → A
 unfolding points O.fields
 edge-word b x h k = anyb-elim 8 _ (and-r _ _ h) (λ f l e. k f l (and-l _ _ e) (eqb-true _ _ (and-r _ _ e)))
 
@@ -41,7 +41,7 @@ ref-four : (b : Obj) (f : ℕ) → O.isRef b f ≡ true → f < 4
 unfolding O.isRef
 ref-four b f h = ltb-true f 4 h
 
-ref-small : (b : Obj) (f : ℕ) → O.isRef b f ≡ true → f < 8
+ref-small : (b : Obj) (f : ℕ) → O.isRef b f ≡ true → f < slotWords
 ref-small b f h = let k = ref-four b f h in omega arith
 
 pub first-word : (x f : ℕ) → first x .object .word f ≡ 0
@@ -53,12 +53,12 @@ unfolding O.put
 put-range b g v f m h k = by-bool (eqb f g) (λ e. rw e (k (eqb-true f g e))) (λ e. rw e h)
 
 -- a sound record writes references of the store
-applied-range : {n : ℕ} (r : Record) → SoundRecord n r → (x : ℕ) (b : Obj) (f : ℕ) → f < 4 → b .word f ≤ 16 * n → applied r x b .word f ≤ 16 * n
+applied-range : {n : ℕ} (r : Record) → SoundRecord n r → (x : ℕ) (b : Obj) (f : ℕ) → f < 4 → b .word f ≤ objectCount n → applied r x b .word f ≤ objectCount n
 unfolding applied O.fresh O.blank
 applied-range {n} r h x b f l k = by-bool (names 2 r x)
     (λ e. rw e (omega arith))
     (λ e. rw e (by-bool (names 3 r x)
-    (λ d. rw d (put-range b (r .field) (r .new) f (16 * n) k (λ z. h .new-reference (eqb-true (r .kind) 3 (Rattle.words.specs.Tests.and-l (eqb (r .kind) 3) (eqb (r .object) x) d)) (omega arith))))
+    (λ d. rw d (put-range b (r .field) (r .new) f (objectCount n) k (λ z. h .new-reference (eqb-true (r .kind) 3 (Rattle.words.specs.Tests.and-l (eqb (r .kind) 3) (eqb (r .object) x) d)) (omega arith))))
     (λ d. rw d (by-bool (names 6 r x || Rattle.book.specs.Pointers.sweeps r x) (λ q. rw q (omega arith)) (λ q. rw q k)))))
 
 module _ (n : ℕ) (some : 1 ≤ n) (c : Line → Bool) (ls : List Line) (ok : SoundLines n ls) where
@@ -77,7 +77,7 @@ module _ (n : ℕ) (some : 1 ≤ n) (c : Line → Bool) (ls : List Line) (ok : S
   occ-is : (x : ℕ) → 1 ≤ x → object x .occ ≡ occupied pages x
   occ-is x l = ap (λ (b : Obj). b .occ) (sym (shows x)) ∙ view-occ pages x l
 
-  word-is : (x f : ℕ) → 1 ≤ x → f < 8 → object x .word f ≡ wordOf pages x f
+  word-is : (x f : ℕ) → 1 ≤ x → f < slotWords → object x .word f ≡ wordOf pages x f
   word-is x f l k = ap (λ (b : Obj). b .word f) (sym (shows x)) ∙ view-word pages x l f k
 
   positive : {x : ℕ} → Reached pages x → 1 ≤ x
@@ -117,14 +117,14 @@ module _ (n : ℕ) (some : 1 ≤ n) (c : Line → Bool) (ls : List Line) (ok : S
   }
 
   -- references of lines are objects of the store
-  range-at : (ms : List Line) → SoundLines n ms → (x f : ℕ) → f < 4 → seen c ms x .object .word f ≤ 16 * n
+  range-at : (ms : List Line) → SoundLines n ms → (x f : ℕ) → f < 4 → seen c ms x .object .word f ≤ objectCount n
   unfolding seen
   range-at [] h x f l = rw (first-word x f) (omega arith)
   range-at (l ∷ ms) h x f k = let ih = range-at ms (λ m i. h m (later i)) x f k in by-bool (c l)
       (λ e. rw e (applied-range (l .entry) (sound-record n (l .entry) (h l here)) x (seen c ms x .object) f k ih))
       (λ e. rw e ih)
 
-  pub whole-in : Leads pages (filtered c ls) → occupied pages 1 ≡ true → Whole (16 * n) (suc (length ls)) object tag
+  pub whole-in : Leads pages (filtered c ls) → occupied pages 1 ≡ true → Whole (objectCount n) (suc (length ls)) object tag
   whole-in h top = record {
     leads = λ o f p r z. let q = from-reach p in
         let w : wordOf pages o f ≡ object o .word f = sym (word-is o f (positive q) (ref-small (object o) f r)) in

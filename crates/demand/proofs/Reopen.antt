@@ -29,9 +29,10 @@ use Rattle.demand.proofs.Shared.{full-ext}
 use Rattle.demand.proofs.Stopping.{stops, inv-size, waiting-moved}
 use Rattle.book_laws.proofs.Folds.{zeros, zero-at}
 use Rattle.pages.specs.Soundness.{areaSound}
+use Rattle.pages.specs.Geometry.{pageWords}
 
 -- what reopening recovers is the committed state that the stop leaves
-pub recovered-committed : (n : ℕ) → 1 ≤ n → (s : Areas) (b : Book) → Inv3 n s b → length (s .stored) ≡ 129 * n → areaSound (s .stored) n ≡ true
+pub recovered-committed : (n : ℕ) → 1 ≤ n → (s : Areas) (b : Book) → Inv3 n s b → length (s .stored) ≡ pageWords * n → areaSound (s .stored) n ≡ true
     → recovered (s .stored) (s .log) (stableCount s) ≡ committedPages n (stopped (storing 0) b)
 recovered-committed n some s b i l sound =
     let b′ = stopped (storing 0) b in let w = stops n some s b (storing 0) i in

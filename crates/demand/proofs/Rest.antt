@@ -9,7 +9,7 @@ use lib.ListN.{length}
 use lib.Dec.{ltb}
 use Rattle.words.specs.Tests.{by-bool, clash, and-false, or-false}
 use Rattle.words.specs.Bits.{bit, bit-none}
-use Rattle.pages.specs.Geometry.{isObject}
+use Rattle.pages.specs.Geometry.{isObject, objectCount}
 use Rattle.records.specs.Order.{openIn}
 use Rattle.areas.specs.Areas.{Areas, receivedCount, stableCount}
 use Rattle.areas.specs.Layout.{activeAt, readersAt, writersAt, unflushedAt, knownAt, prunedAt, createdAt, colourAt}
@@ -40,6 +40,7 @@ use Rattle.book_laws.proofs.Pages.{committed-view}
 use Rattle.book_laws.proofs.Running.{runs-none}
 use Rattle.demand.proofs.State.{machine, received, stable, logged, LogInv, OpenInv}
 use Rattle.demand.proofs.HoldsWaiting.{idle-full}
+use Rattle.records.specs.Records.{txnCount}
 
 -- clear tables are nobody's
 module _ (n : ℕ) (w : List ℕ) (clear : (i : ℕ) → 2 ≤ i → at w i ≡ 0) where
@@ -48,11 +49,11 @@ module _ (n : ℕ) (w : List ℕ) (clear : (i : ℕ) → 2 ≤ i → at w i ≡ 
 
   page-none : (place : ℕ → ℕ) → ((p : ℕ) → 2 ≤ place p) → (t p : ℕ) → pageBit w n place t p ≡ false
   unfolding pageBit
-  page-none place h t p = ap (λ (b : Bool). ltb t 16 and (ltb p n and b)) (none-has (place p) t (h p)) ∙ rw (Bits.and-false (ltb p n)) (Bits.and-false (ltb t 16))
+  page-none place h t p = ap (λ (b : Bool). ltb t txnCount and (ltb p n and b)) (none-has (place p) t (h p)) ∙ rw (Bits.and-false (ltb p n)) (Bits.and-false (ltb t txnCount))
 
   object-none : (place : ℕ → ℕ) → ((x : ℕ) → 2 ≤ place x) → (t x : ℕ) → objectBit w n place t x ≡ false
   unfolding objectBit
-  object-none place h t x = ap (λ (b : Bool). ltb t 16 and (isObject n x and b)) (none-has (place x) t (h x)) ∙ rw (Bits.and-false (isObject n x)) (Bits.and-false (ltb t 16))
+  object-none place h t x = ap (λ (b : Bool). ltb t txnCount and (isObject n x and b)) (none-has (place x) t (h x)) ∙ rw (Bits.and-false (isObject n x)) (Bits.and-false (ltb t txnCount))
 
   flag-none : (place : ℕ → ℕ) → ((x : ℕ) → 2 ≤ place x) → (x : ℕ) → flagBit w n place x ≡ false
   unfolding flagBit
@@ -63,7 +64,7 @@ module _ (n : ℕ) (w : List ℕ) (clear : (i : ℕ) → 2 ≤ i → at w i ≡ 
   colour-none x = rw (clear (colourAt n x) (omega arith)) (by-bool (isObject n x) (λ e. rw e refl) (λ e. rw e refl))
 
   act-none : (t : ℕ) → locksOf w n .act t ≡ false
-  act-none t = ap (λ (b : Bool). ltb t 16 and b) (none-has activeAt t (omega arith)) ∙ Bits.and-false (ltb t 16)
+  act-none t = ap (λ (b : Bool). ltb t txnCount and b) (none-has activeAt t (omega arith)) ∙ Bits.and-false (ltb t txnCount)
 
   wr-none : (t p : ℕ) → locksOf w n .wr t p ≡ false
   wr-none t p = page-none (writersAt n) (λ q. omega arith) t p
@@ -99,7 +100,7 @@ pub record Resting (n : ℕ) (s : Areas) (b : Book) : Type 0 where
   pub idle : (t : ℕ) → b .running t ≡ 0
   pub forgot : (t x : ℕ) → b .known t x ≡ false
   pub all-stable : b .stable ≡ length (b .lines)
-  pub whole : Whole (16 * n) (suc (length (b .lines))) (λ x. seenCommitted b x .object) (λ x. seenCommitted b x .tag)
+  pub whole : Whole (objectCount n) (suc (length (b .lines))) (λ x. seenCommitted b x .object) (λ x. seenCommitted b x .tag)
   pub leads : Leads (committedPages n b) (committedLines b)
 
 module _ (n : ℕ) (some : 1 ≤ n) (s : Areas) (b : Book) (r : Resting n s b) where

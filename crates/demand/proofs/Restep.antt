@@ -9,7 +9,7 @@ use lib.ListN.{length, set, length-set}
 use lib.Seq.{getD-set-same, getD-set-other}
 use lib.Dec.{eqb}
 use borrow.Author.Tests.{lt-ltb, le-ltb}
-use Rattle.pages.specs.Geometry.{pageAt}
+use Rattle.pages.specs.Geometry.{pageAt, pageWords}
 use Rattle.pages.specs.Objects.{copiedPage}
 use Rattle.page_laws.specs.Runs.{copied-inside, copied-outside}
 use Rattle.page_laws.specs.ViewLaws.{length-copied}
@@ -48,7 +48,7 @@ module _ (n : ℕ) (some : 1 ≤ n) (s : Areas) (b : Book) (k : ℕ) (i : Storin
     abbrev stored′ : List ℕ
     stored′ = copiedPage (s .copies) (s .stored) k
 
-    stored-length : length stored′ ≡ 129 * n
+    stored-length : length stored′ ≡ pageWords * n
     stored-length = length-copied n (s .copies) (s .stored) k (size .copies-len) (size .stored-len) less
 
     stored-cells : SameCells (stable s) (view stored′) (view (s .stored))
@@ -58,14 +58,14 @@ module _ (n : ℕ) (some : 1 ≤ n) (s : Areas) (b : Book) (k : ℕ) (i : Storin
         (same-mix (stable s) q (view (s .copies)) (view (s .stored)) (view (s .stored)) copies-cells (same-self (stable s) (view (s .stored))))
 
     -- one page more is as committed
-    stored-words : (j : ℕ) → j < 129 * (k + 1) → at stored′ j ≡ at (committedPages n b) j
+    stored-words : (j : ℕ) → j < pageWords * (k + 1) → at stored′ j ≡ at (committedPages n b) j
     stored-words j l =
-        let f : pageAt k + 129 ≤ length (s .copies) = let e = size .copies-len in omega arith in
-        let t : pageAt k + 129 ≤ length (s .stored) = let e = size .stored-len in omega arith in
-        elim (decLt j (129 * k)) [
-          | yes h ↦ copied-outside (s .copies) (s .stored) (pageAt k) 129 f t j (λ m d e. omega arith) ∙ i .stored j h
-          | no h ↦ (let e : pageAt k + (j - 129 * k) ≡ j = omega arith in
-              subst (λ (m : ℕ). at stored′ m ≡ at (s .copies) m) e (copied-inside (s .copies) (s .stored) (pageAt k) 129 f t (j - 129 * k) (omega arith))
+        let f : pageAt k + pageWords ≤ length (s .copies) = let e = size .copies-len in omega arith in
+        let t : pageAt k + pageWords ≤ length (s .stored) = let e = size .stored-len in omega arith in
+        elim (decLt j (pageWords * k)) [
+          | yes h ↦ copied-outside (s .copies) (s .stored) (pageAt k) pageWords f t j (λ m d e. omega arith) ∙ i .stored j h
+          | no h ↦ (let e : pageAt k + (j - pageWords * k) ≡ j = omega arith in
+              subst (λ (m : ℕ). at stored′ m ≡ at (s .copies) m) e (copied-inside (s .copies) (s .stored) (pageAt k) pageWords f t (j - pageWords * k) (omega arith))
               ∙ ap (λ (a : List ℕ). at a j) (i .copies))
         ]
 

@@ -20,9 +20,11 @@ use Rattle.collector.specs.State.{mix}
 use Rattle.views.specs.View.{view}
 use Rattle.shown.specs.Tables.{locksOf, pageBit}
 use Rattle.page_laws.specs.BitLaws.{below-suc}
+use Rattle.pages.specs.Geometry.{pageWords}
+use Rattle.records.specs.Records.{txnCount}
 
-module _ (w : List ℕ) (n t : ℕ) (received copies : List ℕ) (lr : length received ≡ 129 * n) (lc : length copies ≡ 129 * n) where
-  pub length-restored : (k : ℕ) → k ≤ n → length (restored w n t received copies k) ≡ 129 * n
+module _ (w : List ℕ) (n t : ℕ) (received copies : List ℕ) (lr : length received ≡ pageWords * n) (lc : length copies ≡ pageWords * n) where
+  pub length-restored : (k : ℕ) → k ≤ n → length (restored w n t received copies k) ≡ pageWords * n
   unfolding restored
   length-restored zero l = lc
   length-restored (suc p) l = by-bool (canWrite w n t p)
@@ -43,8 +45,8 @@ module _ (w : List ℕ) (n t : ℕ) (received copies : List ℕ) (lr : length re
       (λ d. rw (below-suc (Geometry.pageOf x) p (eqb-false (Geometry.pageOf x) p d)))))
 
   -- t's pages are the received ones
-  pub restored-view : t < 16 → (x : ℕ) → view (restored w n t received copies n) x ≡ mix (λ o. locksOf w n .wr t (pageOf o)) (view received) (view copies) x
+  pub restored-view : t < txnCount → (x : ℕ) → view (restored w n t received copies n) x ≡ mix (λ o. locksOf w n .wr t (pageOf o)) (view received) (view copies) x
   unfolding pageOf pageBit _and_
-  restored-view small x = restored-below n (omega arith) x ∙ rw (lt-ltb t 16 small) (by-bool (ltb (Geometry.pageOf x) n)
+  restored-view small x = restored-below n (omega arith) x ∙ rw (lt-ltb t txnCount small) (by-bool (ltb (Geometry.pageOf x) n)
       (λ e. rw e (by-bool (canWrite w n t (Geometry.pageOf x)) (λ d. rw d) (λ d. rw d)))
       (λ e. rw e))

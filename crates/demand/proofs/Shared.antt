@@ -18,6 +18,7 @@ use Rattle.book_laws.specs.Keeping.{here, later, SoundLines}
 use Rattle.book_laws.proofs.Acts.{picked-object, picked-tag}
 use Rattle.book_laws.proofs.Folds.{after-length}
 use Rattle.book_laws.proofs.Pages.{full-view, full-length}
+use Rattle.pages.specs.Geometry.{pageWords}
 
 -- a choice by the pages that t writes, as the machine makes it
 pub picked : (wr : ℕ → ℕ → Bool) (t : ℕ) (A B : ℕ → Seen) (x : ℕ) (v : Seen) → v ≡ if (wr t (Geometry.pageOf x)) (A x) (B x)
@@ -37,7 +38,7 @@ module _ (n : ℕ) (some : 1 ≤ n) where
       (λ e. rw e (small-effect n (pagesAfter n (filtered c ls)) (after-length n some c ls (λ m j d. k m j)) (l .entry) (h l here) (small-after c ls k)))
       (λ e. rw e (small-after c ls k))
 
-  pub full-ext : (b : Book) → SoundLines n (b .lines) → (a : List ℕ) → length a ≡ 129 * n → Small n a → ((x : ℕ) → view a x ≡ seenFull b x .object) → a ≡ fullPages n b
+  pub full-ext : (b : Book) → SoundLines n (b .lines) → (a : List ℕ) → length a ≡ pageWords * n → Small n a → ((x : ℕ) → view a x ≡ seenFull b x .object) → a ≡ fullPages n b
   unfolding fullLines
   full-ext b ok a len small e = area-ext n a (fullPages n b) len (full-length n some b ok) small (small-after (countsFull b) (b .lines) ok)
       (λ x. e x ∙ sym (full-view n some b ok x))

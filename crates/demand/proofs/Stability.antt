@@ -14,7 +14,7 @@ use Rattle.words.specs.Bits.{bit-none}
 use Rattle.words.specs.Spans.{same}
 use Rattle.pages.specs.Objects.{copiedPage}
 use Rattle.page_laws.specs.ViewLaws.{length-copied}
-use Rattle.records.specs.Records.{recordAt}
+use Rattle.records.specs.Records.{recordAt, txnCount}
 use Rattle.records.specs.Order.{openIn, logSound}
 use Rattle.areas.specs.Answers.{accepted}
 use Rattle.areas.specs.Areas.{Areas, Out, receivedCount, stableCount, withCounts, withStored}
@@ -151,7 +151,7 @@ module _ (n : ℕ) (s : Areas) (b : Book) (i : OpenInv n s b) (h : Open s n) (f 
   committed x = seenCommitted b x .object
 
   idle : (t : ℕ) → locksOf (s .work) n .act t ≡ false
-  idle t = rw (f .none-active, bit-none t) (and-false (ltb t 16))
+  idle t = rw (f .none-active, bit-none t) (and-false (ltb t txnCount))
 
   unwritten : (t p : ℕ) → locksOf (s .work) n .wr t p ≡ false
   unwritten t p = is-false (locksOf (s .work) n .wr t p) (λ w. clash (i .collector .exclusive .writer t p w .0) (idle t))

@@ -26,6 +26,7 @@ use Rattle.demand.proofs.State.{Inv3, open-store}
 use Rattle.demand.proofs.Stopping.{whole-of}
 use Rattle.book_laws.proofs.Folds.{zeros, zero-at}
 use Rattle.demand.proofs.Rest.{Resting, rest-open}
+use Rattle.pages.specs.Geometry.{slotWords}
 
 reached-some : {a : List ℕ} {x : ℕ} → Reached a x → 1 ≤ x
 reached-some root = omega arith
@@ -36,7 +37,7 @@ module _ (n l : ℕ) (some : 1 ≤ n) where
   s = formatted n l
 
   -- no word is a reference
-  no-words : (o f : ℕ) → 1 ≤ o → f < 8 → wordOf (formattedPages n) o f ≡ 0
+  no-words : (o f : ℕ) → 1 ≤ o → f < slotWords → wordOf (formattedPages n) o f ≡ 0
   no-words o f h k = sym (view-word (formattedPages n) o h f k) ∙ ap (λ (b : Obj). b .word f) (formatted-view n some o) ∙ first-word o f
 
   leads : Leads (formattedPages n) []

@@ -28,6 +28,8 @@ use Rattle.recovery.proofs.Decided.{SameCells}
 use Rattle.book_laws.specs.Seen.{counted, committedOf, seen, seenCommitted, seenFull}
 use Rattle.book_laws.specs.Striking.{entries}
 use Rattle.book_laws.specs.Keeping.{SoundLines, Runs, BookInv, Writers}
+use Rattle.pages.specs.Geometry.{pageWords, objectCount}
+use Rattle.records.specs.Records.{txnCount}
 
 -- the collector's state: committed and full objects with their lines by the book, copies and tables by the words
 abbrev pub machine : ℕ → Areas → Book → St
@@ -67,7 +69,7 @@ pub record LogInv (n : ℕ) (s : Areas) (b : Book) (base : ℕ → Obj) : Type 0
   pub stable-same : b .stable + (receivedCount s - stableCount s) ≡ length (b .lines)
   -- the records by themselves and in order; those begun and not ended are active
   pub order : logSound n (s .log) (receivedCount s) ≡ true
-  pub open-ones : (t : ℕ) → t < 16 → bit (openIn (s .log) (receivedCount s)) t ≡ locksOf (s .work) n .act t
+  pub open-ones : (t : ℕ) → t < txnCount → bit (openIn (s .log) (receivedCount s)) t ≡ locksOf (s .work) n .act t
   -- what each part of the log that may be stable leaves, by the book
   pub part : (j : ℕ) → j ≤ receivedCount s - stableCount s → (x : ℕ)
       → Log.book base x Log.nobody (shapes (drop j (received s))) ≡ seen (counted (drop j (b .lines))) (drop j (b .lines)) x .object
@@ -102,7 +104,7 @@ pub record Waiting (n : ℕ) (s : Areas) (b : Book) : Type 0 where
   pub forgot : (t x : ℕ) → b .known t x ≡ false
   pub all-stable : b .stable ≡ length (b .lines)
   -- the committed state is whole
-  pub whole : Whole (16 * n) (suc (length (b .lines))) (λ x. seenCommitted b x .object) (λ x. seenCommitted b x .tag)
+  pub whole : Whole (objectCount n) (suc (length (b .lines))) (λ x. seenCommitted b x .object) (λ x. seenCommitted b x .tag)
   pub leads : Leads (committedPages n b) (committedLines b)
   -- what is stored and stable gives the committed state
   pub order : logSound n (s .log) (stableCount s) ≡ true
@@ -124,7 +126,7 @@ pub record StoringInv (n : ℕ) (s : Areas) (b : Book) (k : ℕ) : Type 0 where
   pub copies : s .copies ≡ committedPages n b
   pub counts : receivedCount s ≡ stableCount s
   -- the pages stored so far
-  pub stored : (i : ℕ) → i < 129 * k → at (s .stored) i ≡ at (committedPages n b) i
+  pub stored : (i : ℕ) → i < pageWords * k → at (s .stored) i ≡ at (committedPages n b) i
   -- nobody is at work: the tables are clear
   pub clear : (i : ℕ) → 2 ≤ i → at (s .work) i ≡ 0
 

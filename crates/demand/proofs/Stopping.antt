@@ -10,7 +10,7 @@ use lib.Dec.{eqb}
 use borrow.Author.Tests.{eqb-true}
 use Rattle.words.specs.Tests.{by-bool, clash, and-split, and-t}
 use Rattle.words.specs.Bits.{bit}
-use Rattle.pages.specs.Geometry.{pageOf, slotOf, root}
+use Rattle.pages.specs.Geometry.{pageOf, slotOf, root, objectCount}
 use Rattle.records.specs.declared.Record.{Record}
 use Rattle.records.specs.Order.{logSound}
 use Rattle.areas.specs.Areas.{Areas, receivedCount, stableCount}
@@ -60,7 +60,7 @@ root-there n c (l ∷ ls) h = let ih = root-there n c ls (λ m i. h m (later i))
 module _ (n : ℕ) (some : 1 ≤ n) where
   -- pointers that lead make a state whole: the root is there
   pub whole-of : (c : Line → Bool) (ls : List Line) → SoundLines n ls → Leads (pagesAfter n (filtered c ls)) (filtered c ls)
-      → Whole (16 * n) (suc (length ls)) (λ x. seen c ls x .object) (λ x. seen c ls x .tag)
+      → Whole (objectCount n) (suc (length ls)) (λ x. seen c ls x .object) (λ x. seen c ls x .tag)
   whole-of c ls ok h = whole-in n some c ls ok h
       (sym (view-occ (pagesAfter n (filtered c ls)) root (omega arith)) ∙ ap (λ (o : Obj). o .occ) (after-view n some c ls (λ l j e. ok l j) root) ∙ root-there n c ls ok)
 

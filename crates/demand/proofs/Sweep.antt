@@ -10,10 +10,10 @@ use borrow.Author.Tests.{eqb-true, eq-eqb, ne-eqb, le-leb}
 use Rattle.words.specs.Tests.{if, by-bool, clash, and-split, and-true, and-false}
 use Rattle.words.specs.Bits.{bit, map-lt}
 use Rattle.pages.specs.Geometry as Geometry
-use Rattle.pages.specs.Geometry.{slotOf, objectAt, root}
+use Rattle.pages.specs.Geometry.{slotOf, objectAt, root, slotCount}
 use Rattle.pages.specs.Objects.{taken, occupied, released}
 use Rattle.records.specs.declared.Record.{Record}
-use Rattle.records.specs.Records.{sweepOf}
+use Rattle.records.specs.Records.{sweepOf, txnCount}
 use Rattle.records.specs.Effects.{effect}
 use Rattle.records.specs.Soundness.{recordSound}
 use Rattle.records.specs.Order.{openIn, openNext}
@@ -171,7 +171,7 @@ module _ (n : ℕ) (some : 1 ≤ n) (s : Areas) (b : Book) (i : OpenInv n s b) (
     order = refl;
   }
 
-  open-after : (u : ℕ) → u < 16 → bit (openNext (openIn (s .log) (receivedCount s)) r) u ≡ locksOf w n .act u
+  open-after : (u : ℕ) → u < txnCount → bit (openNext (openIn (s .log) (receivedCount s)) r) u ≡ locksOf w n .act u
   open-after u l = i .log .open-ones u l ∙ sym (act-same u)
 
   page-free : (o : ℕ) → sweeps r o ≡ true → (t : ℕ) → locksOf (s .work) n .wr t (pageOf o) ≡ false
@@ -226,7 +226,7 @@ module _ (n : ℕ) (some : 1 ≤ n) (s : Areas) (b : Book) (i : OpenInv n s b) (
   }
 
   -- the slots freed were taken in the received pages
-  was-taken : (k : ℕ) → k < 16 → bit map k ≡ true → taken (s .received) page k ≡ true
+  was-taken : (k : ℕ) → k < slotCount → bit map k ≡ true → taken (s .received) page k ≡ true
   unfolding pageOf
   was-taken k l e =
       let x = objectAt page k in

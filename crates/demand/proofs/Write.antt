@@ -9,7 +9,7 @@ use lib.ListN.{length}
 use lib.Dec.{eqb}
 use borrow.Author.Tests.{eqb-true, lt-ltb}
 use Rattle.words.specs.Tests.{by-bool}
-use Rattle.pages.specs.Geometry.{isRefAt}
+use Rattle.pages.specs.Geometry.{isRefAt, objectCount}
 use Rattle.pages.specs.Objects.{wordOf}
 use Rattle.records.specs.declared.Record.{Record}
 use Rattle.records.specs.Records.{setOf}
@@ -57,7 +57,7 @@ module _ (n : ℕ) (some : 1 ≤ n) (s : Areas) (b : Book) (i : OpenInv n s b) (
   r = setOf t o f (wordOf (s .received) o f) v
 
   -- a reference written is 0 or known, so it is in range
-  new-range : f < 4 → v ≤ 16 * n
+  new-range : f < 4 → v ≤ objectCount n
   unfolding isRefAt
   new-range l = elim (g .may (lt-ltb f 4 l)) [ inl z ↦ omega arith | inr k ↦ known-facts (s .work) n t v k .object .top ]
 

@@ -9,7 +9,7 @@ use lib.Seq.{getD-set-same, getD-set-other}
 use lib.Dec.{eqb, ltb}
 use borrow.Author.Tests.{ltb-true, eqb-false, ne-eqb}
 use Rattle.words.specs.Tests.{by-bool}
-use Rattle.pages.specs.Geometry.{objectAt, pageOf, slotOf, root, slotWords, pageWords}
+use Rattle.pages.specs.Geometry.{objectAt, pageOf, slotOf, root, slotWords, pageWords, slotCount, maxPages}
 use Rattle.pages.specs.Objects.{slotWord, wordOf, formattedPages}
 use Rattle.pages.specs.Soundness.{areaSound}
 use Rattle.page_laws.specs.SoundFacts.{facts-sound, copied-sound}
@@ -47,7 +47,7 @@ use Rattle.book.specs.Demand.{Event, call, power, Point, accepts, after, start}
 use Rattle.collector.specs.Objects as O
 use Rattle.collector.specs.State as M
 use Rattle.shown.specs.Tables.{phaseOf}
-use Rattle.records.specs.Records.{setOf}
+use Rattle.records.specs.Records.{setOf, recordWords, maxRecords}
 use Rattle.collector.specs.Objects.{Obj}
 use Rattle.views.proofs.Places.{page-of-at, slot-of-at}
 use Rattle.recovery.proofs.Maps.{small-formatted}
@@ -258,7 +258,7 @@ cut-fine : (n : ℕ) (s : Areas) (b : Book) → Fine n s b → Fine n (cut s) (s
 unfolding cut
 cut-fine n s b f =
     let z = f .sized in
-    let g : length (cut s .log) ≡ length (s .log) = cut-length (6 * stableCount s) (s .log) in
+    let g : length (cut s .log) ≡ length (s .log) = cut-length (recordWords * stableCount s) (s .log) in
     let c : stableCount (cut s) ≡ stableCount s =
     getD-set-same (zeros (length (s .counts))) 1 (stableCount s) 0 (rw (length-replicate {A = ℕ} (length (s .counts)) 0) (let e = z .counts-len in omega arith)) in
     let none : reopening (cut s) ≡ 0 = zero-at (length (s .work)) 0 in
@@ -273,8 +273,8 @@ cut-fine n s b f =
     }
 
 -- a freshly formatted store
-module _ (n l : ℕ) (some : 1 ≤ n) (most : n ≤ 256) (low : 1 ≤ l) (few : l ≤ 4096) where
-  no-word : (p k g : ℕ) → k < 16 → g < 8 → slotWord (formattedPages n) p k g ≡ 0
+module _ (n l : ℕ) (some : 1 ≤ n) (most : n ≤ maxPages) (low : 1 ≤ l) (few : l ≤ maxRecords) where
+  no-word : (p k g : ℕ) → k < slotCount → g < slotWords → slotWord (formattedPages n) p k g ≡ 0
   no-word p k g h m =
       let x = objectAt p k in
       let q : pageOf x ≡ p = page-of-at p k h in
@@ -296,8 +296,8 @@ module _ (n l : ℕ) (some : 1 ≤ n) (most : n ≤ 256) (low : 1 ≤ l) (few : 
       let s = formatted n l in
       let w : length (s .work) ≡ workWords n l = length-set (zeros (workWords n l)) 0 2 ∙ length-replicate {A = ℕ} (workWords n l) 0 in
       let two : reopening s ≡ 2 = getD-set-same (zeros (workWords n l)) 0 2 0 (rw (length-replicate {A = ℕ} (workWords n l) 0) (omega arith)) in
-      let p : length (s .stored) ≡ 129 * n = formatted-length n some in
-      let g : length (s .log) ≡ 6 * l = length-replicate {A = ℕ} (6 * l) 0 in
+      let p : length (s .stored) ≡ pageWords * n = formatted-length n some in
+      let g : length (s .log) ≡ recordWords * l = length-replicate {A = ℕ} (recordWords * l) 0 in
       let e : records s ≡ l = rw g (omega arith) in
       let none = held-none (s .log) 0 refl in
       open-fine n some s blank (as-open n s blank (start-inv n l some) two)
@@ -335,5 +335,5 @@ keep-fine n some q power u = cut-fine n (q .store) (q .book) (u .fine)
 pub keep-sure : (n : ℕ) → 1 ≤ n → (q : Point) (e : Event) → Sure n q → Sure n (after n q e)
 keep-sure n some q e u = record { inv = keep n some q e (u .inv); fine = keep-fine n some q e u }
 
-pub start-sure : (n l : ℕ) → 1 ≤ n → n ≤ 256 → 1 ≤ l → l ≤ 4096 → Sure n (start n l)
+pub start-sure : (n l : ℕ) → 1 ≤ n → n ≤ maxPages → 1 ≤ l → l ≤ maxRecords → Sure n (start n l)
 start-sure n l some most low few = record { inv = start-inv n l some; fine = start-fine n l some most low few }

@@ -11,7 +11,7 @@ use Rattle.words.specs.Tests.{sum}
 use Rattle.words.specs.Bits.{bit-none}
 use Rattle.pages.specs.Soundness.{areaSound}
 use Rattle.records.specs.declared.Record.{Record}
-use Rattle.records.specs.Records.{recorded, recordWords}
+use Rattle.records.specs.Records.{recorded, recordWords, txnCount}
 use Rattle.records.specs.Changes.{changesLeft, reserved}
 use Rattle.records.specs.Effects.{effect}
 use Rattle.records.specs.Soundness.{recordsSound}
@@ -94,7 +94,7 @@ sum-alike f g (suc n) h = rw (sum-alike f g n (λ i l. h i (omega arith)), h n (
 
 pub reserved-held : (n : ℕ) (s : Areas) (b : Book) → OpenInv n s b → reserved (s .work) (s .log) (receivedCount s) (at (s .work) activeAt) ≡ held (s .log) (receivedCount s)
 unfolding reserved changesLeft
-reserved-held n s b i = sum-alike _ _ 16 (λ t l. rw (i .log .open-ones t l, lt-ltb t 16 l, true-and (has (s .work) activeAt t)) refl)
+reserved-held n s b i = sum-alike _ _ 16 (λ t l. rw (i .log .open-ones t l, lt-ltb t txnCount l, true-and (has (s .work) activeAt t)) refl)
 
 -- a call that changes working words alone
 pub quiet-fine : (n : ℕ) → 1 ≤ n → (s : Areas) (b b′ : Book) (w : List ℕ) → OpenInv n (withWork s w) b′ → Fine n s b → Open s n → Within w n → b′ .lines ≡ b .lines → b′ .stable ≡ b .stable

@@ -11,14 +11,14 @@ use lib.Dec.{eqb}
 use borrow.Author.Tests.{eq-eqb, eqb-false, eqb-true}
 use Rattle.words.specs.Tests.{by-bool, clash}
 use Rattle.words.specs.Bits.{bit}
-use Rattle.pages.specs.Geometry.{pageOf, isRefAt}
+use Rattle.pages.specs.Geometry.{pageOf, isRefAt, pageWords}
 use Rattle.pages.specs.Objects.{occupied, wordOf, copiedPage}
 use Rattle.pages.specs.Soundness.{areaSound}
 use Rattle.page_laws.specs.SoundFacts.{occupy-sound, written-sound, released-sound, copied-sound}
 use Rattle.page_laws.specs.ViewLaws.{length-copied}
 use Rattle.page_laws.specs.Places.{length-released-in}
 use Rattle.records.specs.declared.Record.{Record}
-use Rattle.records.specs.Records.{recorded, beginOf, commitOf, abortedOf, createOf, setOf, sweepOf}
+use Rattle.records.specs.Records.{recorded, beginOf, commitOf, abortedOf, createOf, setOf, sweepOf, recordWords, txnCount}
 use Rattle.records.specs.Changes.{changesLeft}
 use Rattle.records.specs.Effects.{effect}
 use Rattle.records.specs.Soundness.{recordSound}
@@ -72,7 +72,7 @@ appended-stored : (a : Areas) (r : Record) → appended a r .stored ≡ a .store
 unfolding appended
 appended-stored a r = refl
 
-last-share : (t : ℕ) (a : Areas) → 6 * receivedCount a + 6 ≤ length (a .log) → receivedCount (appended a (abortedOf t)) ≡ receivedCount a + 1
+last-share : (t : ℕ) (a : Areas) → recordWords * receivedCount a + recordWords ≤ length (a .log) → receivedCount (appended a (abortedOf t)) ≡ receivedCount a + 1
     → share (appended a (abortedOf t) .log) (receivedCount (appended a (abortedOf t))) t ≡ 0
 unfolding appended
 last-share t a l e = rw e (ended-share (a .log) (receivedCount a) (abortedOf t) l t refl refl refl)
@@ -85,13 +85,13 @@ module _ (n : ℕ) (some : 1 ≤ n) (s : Areas) (b : Book) (i : OpenInv n s b) (
   beyond : (k : ℕ) → Room s k → receivedCount s + held (s .log) (receivedCount s) + k ≤ records s
   beyond k r = rw (reserved-held n s b i) at r
 
-  long : (k : ℕ) → 1 ≤ k → receivedCount s + k ≤ records s → 6 * receivedCount s + 6 ≤ length (s .log)
+  long : (k : ℕ) → 1 ≤ k → receivedCount s + k ≤ records s → recordWords * receivedCount s + recordWords ≤ length (s .log)
   long k l m = let e = h .sized .log-len in omega arith
 
-  runs : (t : ℕ) → t < 16 → bit (at (s .work) activeAt) t ≡ true → Runs b t
+  runs : (t : ℕ) → t < txnCount → bit (at (s .work) activeAt) t ≡ true → Runs b t
   runs t l a = i .active t (act-is s n (machine n s b) (machine-shows n s b) t l ∙ a)
 
-  opens : (t : ℕ) → t < 16 → bit (at (s .work) activeAt) t ≡ true → bit (openIn (s .log) (receivedCount s)) t ≡ true
+  opens : (t : ℕ) → t < txnCount → bit (at (s .work) activeAt) t ≡ true → bit (openIn (s .log) (receivedCount s)) t ≡ true
   opens t l a = i .log .open-ones t l ∙ act-is s n (machine n s b) (machine-shows n s b) t l ∙ a
 
   committed-sound : areaSound (committedPages n b) n ≡ true
@@ -175,7 +175,7 @@ module _ (n : ℕ) (some : 1 ≤ n) (s : Areas) (b : Book) (i : OpenInv n s b) (
           (λ d. inr (rw d at e ∙ shown-committed x))
 
   -- copies of t's pages
-  restored-sound : (t : ℕ) (received : List ℕ) → length received ≡ 129 * n → areaSound received n ≡ true → (k : ℕ) → k ≤ n → areaSound (restored (s .work) n t received (s .copies) k) n ≡ true
+  restored-sound : (t : ℕ) (received : List ℕ) → length received ≡ pageWords * n → areaSound received n ≡ true → (k : ℕ) → k ≤ n → areaSound (restored (s .work) n t received (s .copies) k) n ≡ true
   unfolding restored
   restored-sound t received len sound zero l = h .ranged .copies-sound
   restored-sound t received len sound (suc p) l = by-bool (canWrite (s .work) n t p)
@@ -208,14 +208,14 @@ module _ (n : ℕ) (some : 1 ≤ n) (s : Areas) (b : Book) (i : OpenInv n s b) (
       let len = h .sized .log-len in
       let m = rolled-more n g t cs s u (let e = h .sized .counts-len in omega arith) (let r = k .room in omega arith) in
       let a = rolledBack g cs s in
-      let long-a : 6 * receivedCount a + 6 ≤ length (a .log) = let r = k .room in let p = m .log in let q = m .count in omega arith in
+      let long-a : recordWords * receivedCount a + recordWords ≤ length (a .log) = let r = k .room in let p = m .log in let q = m .count in omega arith in
       let m′ = one-more t a (abortedOf t) refl (let e = h .sized .counts-len in let p = m .counts in omega arith) long-a in
       let z : share (appended a (abortedOf t) .log) (receivedCount (appended a (abortedOf t))) t ≡ 0 = last-share t a long-a (m′ .count) in
       let y = shares t o in
       let hold = held-but t (share g c t) 0 g c (appended a (abortedOf t) .log) (receivedCount (appended a (abortedOf t))) (k .txn)
       (record { shares = λ v d. m′ .others .shares v d ∙ m .others .shares v d }) (omega arith) in
       let room = f .room (h .finished) in
-      let received-len : length (appended a (abortedOf t) .received) ≡ 129 * n = ap length (j .full) ∙ full-length n some (abortedBy b t) (j .sound) in
+      let received-len : length (appended a (abortedOf t) .received) ≡ pageWords * n = ap length (j .full) ∙ full-length n some (abortedBy b t) (j .sound) in
       let sound : areaSound (appended a (abortedOf t) .received) n ≡ true = abort-received t run (aborted s n t) j in
       let log-len : length (appended a (abortedOf t) .log) ≡ length (s .log) = m′ .log ∙ m .log in
       let e-len : length cs ≡ length (changesLeft [] g c t) = ap length ec in
@@ -235,7 +235,7 @@ module _ (n : ℕ) (some : 1 ≤ n) (s : Areas) (b : Book) (i : OpenInv n s b) (
       none run = unended (b .running t) (b .lines) (i .book .unended t run)
 
   -- flush and store page
-  pub flushed-fine : (t p : ℕ) → t < 16 → p < n → OpenInv n (flushed s n t p) b → Fine n (flushed s n t p) b
+  pub flushed-fine : (t p : ℕ) → t < txnCount → p < n → OpenInv n (flushed s n t p) b → Fine n (flushed s n t p) b
   unfolding flushed
   flushed-fine t p l m j =
       let v = lose-within (s .work) n (unflushedAt n p) t within (omega arith) (omega arith) in

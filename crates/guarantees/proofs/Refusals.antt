@@ -55,6 +55,7 @@ use Rattle.guarantees.proofs.Fine.{Fine}
 use Rattle.guarantees.proofs.Sound.{firm-stop}
 use Rattle.guarantees.proofs.Reserve.{share, share-held}
 use Rattle.guarantees.proofs.Always.{as-open, Sure, keep-sure, start-sure}
+use Rattle.records.specs.Records.{recordWords, txnCount}
 
 -- what the invariants give at a point holds at every point
 pub at-every : (n : ℕ) → 1 ≤ n → (Q : Point → Type 0) → ((q : Point) → Sure n q → Q q) → (es : List Event) (q : Point) → Sure n q → AtEvery n Q q es
@@ -72,12 +73,12 @@ fits n s z =
     rw (
       le-leb 1 (pages s) (let l = z .low in omega arith),
       le-leb (pages s) 256 (let l = z .top in omega arith),
-      eq-eqb (length (s .stored)) (129 * pages s) (z .stored-len ∙ ap (λ (m : ℕ). 129 * m) (sym c)),
+      eq-eqb (length (s .stored)) (pageWords * pages s) (z .stored-len ∙ ap (λ (m : ℕ). pageWords * m) (sym c)),
       eq-eqb (length (s .copies)) (length (s .stored)) (z .copies-len ∙ sym (z .stored-len)),
       eq-eqb (length (s .received)) (length (s .stored)) (z .received-len ∙ sym (z .stored-len)),
       le-leb 1 (records s) (z .log-low),
       le-leb (records s) 4096 (z .log-top),
-      eq-eqb (length (s .log)) (6 * records s) (z .log-len),
+      eq-eqb (length (s .log)) (recordWords * records s) (z .log-len),
       eq-eqb (length (s .counts)) 2 (z .counts-len),
     )
     (eq-eqb (length (s .work)) (6 + 67 * pages s) (z .work-len ∙ ap (λ (m : ℕ). 6 + 67 * m) (sym c)))
@@ -176,7 +177,7 @@ module _ (n : ℕ) (some : 1 ≤ n) (s : Areas) (b : Book) (i : Inv3 n s b) (f :
   reserve : isTxn t ≡ true → isActive (s .work) t ≡ true → reopening s ≡ 2 → receivedCount s + (length (changesOf s t) + 1) ≤ records s
   reserve x a e =
       let o = as-open n s b i e in
-      let l = ltb-true t 16 x in
+      let l = ltb-true t txnCount x in
       let g = s .log in let c = receivedCount s in
       let open-t : bit (openIn g c) t ≡ true = o .log .open-ones t l ∙ act-is s n (machine n s b) (machine-shows n s b) t l ∙ a in
       let ec : length (changesOf s t) ≡ length (changesLeft [] g c t) = ap length (changes-left g t (s .work) c open-t ∙ sym (changes-left g t [] c open-t)) in

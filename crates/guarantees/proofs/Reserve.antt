@@ -12,7 +12,7 @@ use borrow.Author.Tests.{ne-eqb, eq-eqb}
 use Rattle.words.specs.Tests.{if, sum, by-bool, and-false, or-false}
 use Rattle.words.specs.Bits.{bit, with-other, without-same, without-other}
 use Rattle.records.specs.declared.Record.{Record}
-use Rattle.records.specs.Records.{recordAt, recorded, isBegin, isChange, isEnd}
+use Rattle.records.specs.Records.{recordAt, recorded, isBegin, isChange, isEnd, recordWords, txnCount}
 use Rattle.records.specs.Changes.{changesIn, changesLeft}
 use Rattle.records.specs.Effects.{undoing}
 use Rattle.records.specs.Order.{openIn, openNext}
@@ -44,18 +44,18 @@ unfolding sum
 sum-part f zero t l = absurd (omega arith)
 sum-part f (suc n) t l = elim (ℕ-discrete t n) [ yes e ↦ rw e (omega arith) | no e ↦ (let h = sum-part f n t (omega arith) in omega arith) ]
 
-pub share-held : (g : List ℕ) (c t : ℕ) → t < 16 → share g c t ≤ held g c
+pub share-held : (g : List ℕ) (c t : ℕ) → t < txnCount → share g c t ≤ held g c
 share-held g c t l = sum-part (share g c) 16 t l
 
 -- the same for all but t
 pub record Others (t : ℕ) (g : List ℕ) (c : ℕ) (g′ : List ℕ) (c′ : ℕ) : Type 0 where
   pub shares : (u : ℕ) → (u ≡ t → ⊥) → share g′ c′ u ≡ share g c u
 
-pub held-but : (t a b : ℕ) (g : List ℕ) (c : ℕ) (g′ : List ℕ) (c′ : ℕ) → t < 16 → Others t g c g′ c′ → share g′ c′ t + a ≤ share g c t + b → held g′ c′ + a ≤ held g c + b
+pub held-but : (t a b : ℕ) (g : List ℕ) (c : ℕ) (g′ : List ℕ) (c′ : ℕ) → t < txnCount → Others t g c g′ c′ → share g′ c′ t + a ≤ share g c t + b → held g′ c′ + a ≤ held g c + b
 held-but t a b g c g′ c′ l o h = sum-but (share g c) (share g′ c′) t a b (o .shares) h 16 .0 l
 
 -- one record more
-module _ (g : List ℕ) (c : ℕ) (r : Record) (long : 6 * c + 6 ≤ length g) where
+module _ (g : List ℕ) (c : ℕ) (r : Record) (long : recordWords * c + recordWords ≤ length g) where
   abbrev g′ : List ℕ
   g′ = recorded g c r
 
@@ -88,7 +88,7 @@ module _ (g : List ℕ) (c : ℕ) (r : Record) (long : 6 * c + 6 ≤ length g) w
   held-sweep k = let s : (u : ℕ) → share g′ (c + 1) u ≡ share g c u = λ u. share-same u (rw k refl) (rw k refl) (rw k refl) in
       let z = held-but 0 0 0 g c g′ (c + 1) (omega arith) (record { shares = λ u d. s u }) (let e = s 0 in omega arith) in omega arith
 
-  pub held-begin : (t : ℕ) → t < 16 → isBegin r t ≡ true → r .txn ≡ t → held g′ (c + 1) ≤ held g c + 1
+  pub held-begin : (t : ℕ) → t < txnCount → isBegin r t ≡ true → r .txn ≡ t → held g′ (c + 1) ≤ held g c + 1
   held-begin t l k e = let z = held-but t 0 1 g c g′ (c + 1) l (others-more t e) (let d = either (bit (openIn g′ (c + 1)) t) (changesLeft [] g′ (c + 1) t) none in omega arith) in omega arith
     where
       none : changesLeft [] g′ (c + 1) t ≡ []
@@ -98,7 +98,7 @@ module _ (g : List ℕ) (c : ℕ) (r : Record) (long : 6 * c + 6 ≤ length g) w
       either true xs d = rw d (omega arith)
       either false xs d = omega arith
 
-  pub held-change : (t : ℕ) → t < 16 → (eqb (r .kind) 2 || eqb (r .kind) 3) ≡ true → eqb (r .kind) 1 ≡ false → isEnd r ≡ false → r .txn ≡ t → held g′ (c + 1) ≤ held g c + 1
+  pub held-change : (t : ℕ) → t < txnCount → (eqb (r .kind) 2 || eqb (r .kind) 3) ≡ true → eqb (r .kind) 1 ≡ false → isEnd r ≡ false → r .txn ≡ t → held g′ (c + 1) ≤ held g c + 1
   unfolding changesLeft
   held-change t l k nb ne e = let z = held-but t 0 1 g c g′ (c + 1) l (others-more t e) (let d = own in omega arith) in omega arith
     where
@@ -124,7 +124,7 @@ pub record More (t k : ℕ) (s s′ : Areas) : Type 0 where
 others-trans : {t : ℕ} {g : List ℕ} {c : ℕ} {g′ : List ℕ} {c′ : ℕ} {g″ : List ℕ} {c″ : ℕ} → Others t g c g′ c′ → Others t g′ c′ g″ c″ → Others t g c g″ c″
 others-trans o p = record { shares = λ u d. p .shares u d ∙ o .shares u d }
 
-pub one-more : (t : ℕ) (s : Areas) (r : Record) → r .txn ≡ t → 0 < length (s .counts) → 6 * receivedCount s + 6 ≤ length (s .log) → More t 1 s (appended s r)
+pub one-more : (t : ℕ) (s : Areas) (r : Record) → r .txn ≡ t → 0 < length (s .counts) → recordWords * receivedCount s + recordWords ≤ length (s .log) → More t 1 s (appended s r)
 unfolding appended
 one-more t s r e l h = let n = getD-set-same (s .counts) 0 (receivedCount s + 1) 0 l in record {
   counts = length-set (s .counts) 0 (receivedCount s + 1);
@@ -134,7 +134,7 @@ one-more t s r e l h = let n = getD-set-same (s .counts) 0 (receivedCount s + 1)
 }
 
 -- an abort's undoing records
-pub rolled-more : (n : ℕ) (g : List ℕ) (t : ℕ) (is : List ℕ) (s : Areas) → Undoable n g t is → 0 < length (s .counts) → 6 * (receivedCount s + length is) ≤ length (s .log)
+pub rolled-more : (n : ℕ) (g : List ℕ) (t : ℕ) (is : List ℕ) (s : Areas) → Undoable n g t is → 0 < length (s .counts) → recordWords * (receivedCount s + length is) ≤ length (s .log)
     → More t (length is) s (rolledBack g is s)
 unfolding rolledBack Undoable
 rolled-more n g t [] s u l h = record { counts = refl; log = refl; count = omega arith; others = record { shares = λ v d. refl } }

@@ -8,7 +8,7 @@ use mathlib.Core.Bool.{true, false}
 use mathlib.Core.List.{List, _∷_}
 use mathlib.Core.Logic.{_⊎_, inl, inr}
 use lib.ListN.{length, drop}
-use Rattle.pages.specs.Geometry.{pageOf, slotOf, objectAt, isRefAt}
+use Rattle.pages.specs.Geometry.{pageOf, slotOf, objectAt, isRefAt, objectCount, slotCount, slotWords}
 use Rattle.pages.specs.Objects.{taken, slotWord, released}
 use Rattle.pages.specs.Soundness.{areaSound}
 use Rattle.page_laws.specs.SoundFacts.{Sound, sound-facts, facts-sound, ref-same}
@@ -29,9 +29,9 @@ use Rattle.book_laws.proofs.Stops.{stop-committed}
 -- slot k of page p is as in area a
 record SlotOf (c a : List ℕ) (p k : ℕ) : Type 0 where
   occ : taken c p k ≡ taken a p k
-  word : (f : ℕ) → f < 8 → slotWord c p k f ≡ slotWord a p k f
+  word : (f : ℕ) → f < slotWords → slotWord c p k f ≡ slotWord a p k f
 
-slot-same : (c a : List ℕ) (p k : ℕ) → k < 16 → view c (objectAt p k) ≡ view a (objectAt p k) → SlotOf c a p k
+slot-same : (c a : List ℕ) (p k : ℕ) → k < slotCount → view c (objectAt p k) ≡ view a (objectAt p k) → SlotOf c a p k
 slot-same c a p k l e =
     let x = objectAt p k in
     let q : pageOf x ≡ p = page-of-at p k l in
@@ -43,14 +43,14 @@ slot-same c a p k l e =
 
 module _ (n : ℕ) (some : 1 ≤ n) (a b c : List ℕ) (sa : areaSound a n ≡ true) (sb : areaSound b n ≡ true) (small : Small n c)
     (either : (x : ℕ) → (view c x ≡ view a x) ⊎ (view c x ≡ view b x)) where
-  slots : (p k : ℕ) → k < 16 → SlotOf c a p k ⊎ SlotOf c b p k
+  slots : (p k : ℕ) → k < slotCount → SlotOf c a p k ⊎ SlotOf c b p k
   slots p k l = elim (either (objectAt p k)) [ inl e ↦ inl (slot-same c a p k l e) | inr e ↦ inr (slot-same c b p k l e) ]
 
   -- one area's share of it
-  ref-of : (d : List ℕ) → Sound d n → (p k f : ℕ) → p < n → k < 16 → f < 8 → isRefAt c p k f ≡ true → SlotOf c d p k → slotWord c p k f ≤ 16 * n
+  ref-of : (d : List ℕ) → Sound d n → (p k f : ℕ) → p < n → k < slotCount → f < slotWords → isRefAt c p k f ≡ true → SlotOf c d p k → slotWord c p k f ≤ objectCount n
   ref-of d s p k f hp hk hf r o = rw (o .word f hf) (s .ref p k f hp hk hf (ref-same c d p k f r))
 
-  free-of : (d : List ℕ) → Sound d n → (p k f : ℕ) → p < n → k < 16 → f < 8 → taken c p k ≡ false → SlotOf c d p k → slotWord c p k f ≡ 0
+  free-of : (d : List ℕ) → Sound d n → (p k f : ℕ) → p < n → k < slotCount → f < slotWords → taken c p k ≡ false → SlotOf c d p k → slotWord c p k f ≡ 0
   free-of d s p k f hp hk hf r o = o .word f hf ∙ s .free p k f hp hk hf (sym (o .occ) ∙ r)
 
   pub either-sound : areaSound c n ≡ true

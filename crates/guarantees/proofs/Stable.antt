@@ -14,7 +14,7 @@ use Rattle.pages.specs.Objects.{copiedPage}
 use Rattle.page_laws.specs.Runs.{copied-inside, copied-outside}
 use Rattle.page_laws.specs.ViewLaws.{length-copied}
 use Rattle.records.specs.declared.Record.{Record}
-use Rattle.records.specs.Records.{recordAt, recorded, abortedOf}
+use Rattle.records.specs.Records.{recordAt, recorded, abortedOf, recordWords}
 use Rattle.records.specs.Effects.{undoing}
 use Rattle.areas.specs.declared.Check.{Check}
 use Rattle.areas.specs.Answers.{accepted, Test}
@@ -45,21 +45,21 @@ same-stable : (s s′ : Areas) → s′ .stored ≡ s .stored → s′ .log ≡ 
 same-stable s s′ e d = record { store = count e; kept = λ i l. ap (λ (g : List ℕ). at g i) d }
 
 -- a record is written behind the stable ones
-recorded-before : (g : List ℕ) (c : ℕ) (r : Record) (i : ℕ) → i < 6 * c → at (recorded g c r) i ≡ at g i
+recorded-before : (g : List ℕ) (c : ℕ) (r : Record) (i : ℕ) → i < recordWords * c → at (recorded g c r) i ≡ at g i
 recorded-before g c r i l =
-    let g1 = set g (6 * c) (r .kind) in
-    let g2 = set g1 (6 * c + 1) (r .txn) in
-    let g3 = set g2 (6 * c + 2) (r .object) in
-    let g4 = set g3 (6 * c + 3) (r .field) in
-    let g5 = set g4 (6 * c + 4) (r .old) in
-    getD-set-other g5 (6 * c + 5) i (r .new) 0 (λ z. omega arith)
-    ∙ getD-set-other g4 (6 * c + 4) i (r .old) 0 (λ z. omega arith)
-    ∙ getD-set-other g3 (6 * c + 3) i (r .field) 0 (λ z. omega arith)
-    ∙ getD-set-other g2 (6 * c + 2) i (r .object) 0 (λ z. omega arith)
-    ∙ getD-set-other g1 (6 * c + 1) i (r .txn) 0 (λ z. omega arith)
-    ∙ getD-set-other g (6 * c) i (r .kind) 0 (λ z. omega arith)
+    let g1 = set g (recordWords * c) (r .kind) in
+    let g2 = set g1 (recordWords * c + 1) (r .txn) in
+    let g3 = set g2 (recordWords * c + 2) (r .object) in
+    let g4 = set g3 (recordWords * c + 3) (r .field) in
+    let g5 = set g4 (recordWords * c + 4) (r .old) in
+    getD-set-other g5 (recordWords * c + 5) i (r .new) 0 (λ z. omega arith)
+    ∙ getD-set-other g4 (recordWords * c + 4) i (r .old) 0 (λ z. omega arith)
+    ∙ getD-set-other g3 (recordWords * c + 3) i (r .field) 0 (λ z. omega arith)
+    ∙ getD-set-other g2 (recordWords * c + 2) i (r .object) 0 (λ z. omega arith)
+    ∙ getD-set-other g1 (recordWords * c + 1) i (r .txn) 0 (λ z. omega arith)
+    ∙ getD-set-other g (recordWords * c) i (r .kind) 0 (λ z. omega arith)
 
-appended-before : (s : Areas) (r : Record) (i c : ℕ) → c ≤ receivedCount s → i < 6 * c → at (appended s r .log) i ≡ at (s .log) i
+appended-before : (s : Areas) (r : Record) (i c : ℕ) → c ≤ receivedCount s → i < recordWords * c → at (appended s r .log) i ≡ at (s .log) i
 unfolding appended
 appended-before s r i c h l = recorded-before (s .log) (receivedCount s) r i (omega arith)
 
@@ -67,7 +67,7 @@ appended-before s r i c h l = recorded-before (s .log) (receivedCount s) r i (om
 record Behind (c : ℕ) (s s′ : Areas) : Type 0 where
   stored : s′ .stored ≡ s .stored
   count : c ≤ receivedCount s′
-  log : (i : ℕ) → i < 6 * c → at (s′ .log) i ≡ at (s .log) i
+  log : (i : ℕ) → i < recordWords * c → at (s′ .log) i ≡ at (s .log) i
 
 rolled-behind : (g : List ℕ) (is : List ℕ) (c : ℕ) (s : Areas) → length (s .counts) ≡ 2 → c ≤ receivedCount s → Behind c s (rolledBack g is s)
 unfolding rolledBack appended
@@ -88,15 +88,15 @@ one-behind n s s′ r o e d = record {
 -- a call that stores a page
 page-stored : (n : ℕ) (s s′ : Areas) (p : ℕ) → Sized s n → p < n → s′ .stored ≡ copiedPage (s .copies) (s .stored) p → PageStored s s′ p
 page-stored n s s′ p z l e =
-    let f : pageAt p + 129 ≤ length (s .copies) = let h = z .copies-len in omega arith in
-    let t : pageAt p + 129 ≤ length (s .stored) = let h = z .stored-len in omega arith in
+    let f : pageAt p + pageWords ≤ length (s .copies) = let h = z .copies-len in omega arith in
+    let t : pageAt p + pageWords ≤ length (s .stored) = let h = z .stored-len in omega arith in
     record {
       size = ap length e ∙ length-copied n (s .copies) (s .stored) p (z .copies-len) (z .stored-len) l ∙ sym (z .stored-len);
       whole = λ i o. ap (λ (a : List ℕ). at a i) e
           ∙ (let d : pageAt p + (i - pageAt p) ≡ i = let x = o .0 in omega arith in
           subst (λ (m : ℕ). at (copiedPage (s .copies) (s .stored) p) m ≡ at (s .copies) m) d
-          (copied-inside (s .copies) (s .stored) (pageAt p) 129 f t (i - pageAt p) (let x = o .0 in let y = o .1 in omega arith)));
-      others = λ i o. ap (λ (a : List ℕ). at a i) e ∙ copied-outside (s .copies) (s .stored) (pageAt p) 129 f t i (λ k h d. o (omega arith, omega arith));
+          (copied-inside (s .copies) (s .stored) (pageAt p) pageWords f t (i - pageAt p) (let x = o .0 in let y = o .1 in omega arith)));
+      others = λ i o. ap (λ (a : List ℕ). at a i) e ∙ copied-outside (s .copies) (s .stored) (pageAt p) pageWords f t i (λ k h d. o (omega arith, omega arith));
     }
 
 one-page : (n : ℕ) (s s′ : Areas) (p : ℕ) → Sized s n → p < n → s′ .stored ≡ copiedPage (s .copies) (s .stored) p → s′ .counts ≡ s .counts → s′ .log ≡ s .log → AtMostOne s s′

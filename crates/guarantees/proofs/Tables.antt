@@ -12,11 +12,11 @@ use borrow.Author.Tests.{eqb-false, le-leb, ltb-true, not-true}
 use Rattle.words.specs.Tests.{if, all-intro, by-bool, and-split}
 use Rattle.words.specs.Bits.{bit, withBit, withoutBit, with-lt, without-le}
 use Rattle.words.specs.Spans.{over, fill, upTo}
-use Rattle.pages.specs.Geometry.{isRef, pageOf, root}
+use Rattle.pages.specs.Geometry.{isRef, pageOf, root, objectCount, slotWords}
 use Rattle.pages.specs.Objects.{wordOf, occupied}
 use Rattle.pages.specs.Soundness.{areaSound}
 use Rattle.page_laws.specs.SoundFacts.{ref-in-range}
-use Rattle.areas.specs.Layout.{phaseAt, passPageAt, stepsAt, activeAt, readersAt, writersAt, unflushedAt, knownAt, prunedAt, createdAt, colourAt, Row}
+use Rattle.areas.specs.Layout.{phaseAt, passPageAt, stepsAt, activeAt, readersAt, writersAt, unflushedAt, knownAt, prunedAt, createdAt, colourAt, Row, tableWords, stepsTop}
 use Rattle.areas.specs.Ranges.{rowsInRange, workInRange}
 use Rattle.areas.specs.Tables.{at, gain, lose, flag, greyed, withPass, stepsNext, canWrite, isWhite, isMarking, passRuns, passFirst, passEnd, mayMark}
 use Rattle.acceptance.specs.Working.{Working}
@@ -24,6 +24,7 @@ use Rattle.calls.specs.Locks.{readLocked, writeLocked}
 use Rattle.calls.specs.Objects.{learned, pruned, prunes}
 use Rattle.calls.specs.Pass.{unflagged, firstColour, passStarted, targetsGreyed, scanned, advanced}
 use Rattle.calls.specs.Transactions.{leaves, knowsRoot, endedEntry, endedEntries, endedTables}
+use Rattle.records.specs.Records.{txnCount}
 
 -- v is in range at word i
 pub data Fits (n i v : ℕ) : Type 0 where
@@ -31,14 +32,14 @@ pub data Fits (n i v : ℕ) : Type 0 where
   reopening-page : i ≡ 1 → v ≤ n → Fits n i v
   phase : i ≡ 2 → v ≤ 2 → Fits n i v
   pass-page : i ≡ 3 → v < n → Fits n i v
-  steps : i ≡ 4 → v ≤ 17 * n → Fits n i v
+  steps : i ≡ 4 → v ≤ stepsTop n → Fits n i v
   mask : 5 ≤ i → i < 6 + 19 * n → v < 65536 → Fits n i v
   flagged : 6 + 19 * n ≤ i → i < 6 + 51 * n → v < 131072 → Fits n i v
   colour : 6 + 51 * n ≤ i → v ≤ 2 → Fits n i v
 
 pub record Within (w : List ℕ) (n : ℕ) : Type 0 where
-  pub size : length w ≡ 6 + 67 * n
-  pub fits : (i : ℕ) → i < 6 + 67 * n → Fits n i (at w i)
+  pub size : length w ≡ tableWords n
+  pub fits : (i : ℕ) → i < tableWords n → Fits n i (at w i)
 
 -- what a fitting word is at most
 module _ (n i v : ℕ) where
@@ -72,7 +73,7 @@ module _ (n i v : ℕ) where
   fits-colour (flagged p q l) a = absurd (omega arith)
   fits-colour (colour p l) a = l
 
-  fits-low : Fits n i v → i < 5 → ((i ≡ 0 → v ≤ 2) × (i ≡ 1 → v ≤ n) × (i ≡ 2 → v ≤ 2) × (i ≡ 3 → v < n) × (i ≡ 4 → v ≤ 17 * n))
+  fits-low : Fits n i v → i < 5 → ((i ≡ 0 → v ≤ 2) × (i ≡ 1 → v ≤ n) × (i ≡ 2 → v ≤ 2) × (i ≡ 3 → v < n) × (i ≡ 4 → v ≤ stepsTop n))
   fits-low (word e l) a = (λ z. omega arith, λ z. absurd (omega arith), λ z. absurd (omega arith), λ z. absurd (omega arith), λ z. absurd (omega arith))
   fits-low (reopening-page e l) a = (λ z. absurd (omega arith), λ z. omega arith, λ z. absurd (omega arith), λ z. absurd (omega arith), λ z. absurd (omega arith))
   fits-low (phase e l) a = (λ z. absurd (omega arith), λ z. absurd (omega arith), λ z. omega arith, λ z. absurd (omega arith), λ z. absurd (omega arith))
@@ -120,12 +121,12 @@ choose i k f g = elim (decLt i k) [ yes l ↦ f l | no l ↦ g (omega arith) ]
 at-place : (w : List ℕ) (top : ℕ) (i j : ℕ) → i ≡ j → at w j ≤ top → at w i ≤ top
 at-place w top i j e h = rw e h
 
-fits-of : (w : List ℕ) (n : ℕ) → Working w n → (i : ℕ) → i < 6 + 67 * n → Fits n i (at w i)
+fits-of : (w : List ℕ) (n : ℕ) → Working w n → (i : ℕ) → i < tableWords n → Fits n i (at w i)
 fits-of w n k i l = choose i 1 (λ a. word (omega arith) (at-place w 2 i 0 (omega arith) (k .reopening-word)))
     (λ b. choose i 2 (λ a. reopening-page (omega arith) (at-place w n i 1 (omega arith) (k .reopening-page)))
     (λ b. choose i 3 (λ a. phase (omega arith) (at-place w 2 i 2 (omega arith) (k .phase)))
     (λ b. choose i 4 (λ a. pass-page (omega arith) (let e : i ≡ 3 = omega arith in rw e (k .pass-page)))
-    (λ b. choose i 5 (λ a. steps (omega arith) (at-place w (17 * n) i 4 (omega arith) (k .steps)))
+    (λ b. choose i 5 (λ a. steps (omega arith) (at-place w (stepsTop n) i 4 (omega arith) (k .steps)))
     (λ b. choose i 6 (λ a. masked 65536 i 5 (omega arith) (k .active) (mask (omega arith) (omega arith)))
     (λ b. choose i (6 + n) (λ a. masked 65536 i (readersAt n (i - 6)) (omega arith) (k .readers (i - 6) (omega arith)) (mask (omega arith) (omega arith)))
     (λ b. choose i (6 + 2 * n) (λ a. masked 65536 i (writersAt n (i - (6 + n))) (omega arith) (k .writers (i - (6 + n)) (omega arith)) (mask (omega arith) (omega arith)))
@@ -138,7 +139,7 @@ fits-of w n k i l = choose i 1 (λ a. word (omega arith) (at-place w 2 i 0 (omeg
     masked : {A : Type 0} (top i j : ℕ) → i ≡ j → at w j < top → (at w i < top → A) → A
     masked top i j e h f = f (rw e h)
 
-pub working-within : (w : List ℕ) (n : ℕ) → length w ≡ 6 + 67 * n → Working w n → Within w n
+pub working-within : (w : List ℕ) (n : ℕ) → length w ≡ tableWords n → Working w n → Within w n
 working-within w n e k = record { size = e; fits = fits-of w n k }
 
 -- one word changed
@@ -155,7 +156,7 @@ set-within w n i v h f = record {
 }
 
 -- a bit set or cleared in a mask
-with-fits : (n i m t : ℕ) → 5 ≤ i → i < 6 + 51 * n → t < 16 → Fits n i m → Fits n i (withBit m t)
+with-fits : (n i m t : ℕ) → 5 ≤ i → i < 6 + 51 * n → t < txnCount → Fits n i m → Fits n i (withBit m t)
 with-fits n i m t a b l f = choose i (6 + 19 * n)
     (λ k. mask a k (with-lt m t 16 (let z = fits-mask n i m f a k in omega arith) l))
     (λ k. flagged k b (with-lt m t 17 (let z = fits-flagged n i m f k b in omega arith) (omega arith)))
@@ -165,14 +166,14 @@ without-fits n i m t a b f = let d = without-le m t in choose i (6 + 19 * n)
     (λ k. mask a k (let z = fits-mask n i m f a k in omega arith))
     (λ k. flagged k b (let z = fits-flagged n i m f k b in omega arith))
 
-pub gain-within : (w : List ℕ) (n i t : ℕ) → Within w n → 5 ≤ i → i < 6 + 51 * n → t < 16 → Within (gain w i t) n
+pub gain-within : (w : List ℕ) (n i t : ℕ) → Within w n → 5 ≤ i → i < 6 + 51 * n → t < txnCount → Within (gain w i t) n
 gain-within w n i t h a b l = set-within w n i (withBit (at w i) t) h (with-fits n i (at w i) t a b l (h .fits i (omega arith)))
 
 pub lose-within : (w : List ℕ) (n i t : ℕ) → Within w n → 5 ≤ i → i < 6 + 51 * n → Within (lose w i t) n
 lose-within w n i t h a b = set-within w n i (withoutBit (at w i) t) h (without-fits n i (at w i) t a b (h .fits i (omega arith)))
 
 -- runs of words
-pub over-within : (f : ℕ → ℕ) (w : List ℕ) (n a k : ℕ) → Within w n → a + k ≤ 6 + 67 * n → ((i v : ℕ) → a ≤ i → i < a + k → Fits n i v → Fits n i (f v)) → Within (over f w a k) n
+pub over-within : (f : ℕ → ℕ) (w : List ℕ) (n a k : ℕ) → Within w n → a + k ≤ tableWords n → ((i v : ℕ) → a ≤ i → i < a + k → Fits n i v → Fits n i (f v)) → Within (over f w a k) n
 unfolding over
 over-within f w n a zero h b g = h
 over-within f w n a (suc k) h b g =
@@ -202,9 +203,9 @@ entries-within t w n a k h p q = over-within (endedEntry (passRuns w) t) w n a k
 
 -- the calls' tables
 module _ (w : List ℕ) (n : ℕ) (some : 1 ≤ n) (h : Within w n) where
-  pub begun-within : (t : ℕ) → t < 16 → Within (knowsRoot (gain w activeAt t) n t) n
+  pub begun-within : (t : ℕ) → t < txnCount → Within (knowsRoot (gain w activeAt t) n t) n
   begun-within t l = gain-within _ n (knownAt n root) t
-      (leaves-within t (gain w activeAt t) n (knownAt n 1) (16 * n) (gain-within w n activeAt t h (omega arith) (omega arith) l) (omega arith) (omega arith)) (omega arith) (omega arith) l
+      (leaves-within t (gain w activeAt t) n (knownAt n 1) (objectCount n) (gain-within w n activeAt t h (omega arith) (omega arith) l) (omega arith) (omega arith)) (omega arith) (omega arith) l
 
   pub ended-within : (t : ℕ) → Within (endedTables w n t) n
   unfolding endedTables
@@ -213,19 +214,19 @@ module _ (w : List ℕ) (n : ℕ) (some : 1 ≤ n) (h : Within w n) where
       let h2 = leaves-within t _ n (readersAt n 0) n h1 (omega arith) (omega arith) in
       let h3 = leaves-within t _ n (writersAt n 0) n h2 (omega arith) (omega arith) in
       let h4 = leaves-within t _ n (unflushedAt n 0) n h3 (omega arith) (omega arith) in
-      let h5 = leaves-within t _ n (knownAt n 1) (16 * n) h4 (omega arith) (omega arith) in
-      let h6 = entries-within t _ n (prunedAt n 1) (16 * n) h5 (omega arith) (omega arith) in
-      entries-within t _ n (createdAt n 1) (16 * n) h6 (omega arith) (omega arith)
+      let h5 = leaves-within t _ n (knownAt n 1) (objectCount n) h4 (omega arith) (omega arith) in
+      let h6 = entries-within t _ n (prunedAt n 1) (objectCount n) h5 (omega arith) (omega arith) in
+      entries-within t _ n (createdAt n 1) (objectCount n) h6 (omega arith) (omega arith)
 
-  pub read-locked-within : (t p : ℕ) → t < 16 → p < n → Within (readLocked w n t p) n
+  pub read-locked-within : (t p : ℕ) → t < txnCount → p < n → Within (readLocked w n t p) n
   unfolding readLocked
   read-locked-within t p l m = by-bool (canWrite w n t p) (λ e. rw e h) (λ e. rw e (gain-within w n (readersAt n p) t h (omega arith) (omega arith) l))
 
-  pub write-locked-within : (t p : ℕ) → t < 16 → p < n → Within (writeLocked w n t p) n
+  pub write-locked-within : (t p : ℕ) → t < txnCount → p < n → Within (writeLocked w n t p) n
   unfolding writeLocked
   write-locked-within t p l m = gain-within _ n (writersAt n p) t (lose-within w n (readersAt n p) t h (omega arith) (omega arith)) (omega arith) (omega arith) l
 
-  pub learned-within : (received : List ℕ) (t o : ℕ) → areaSound received n ≡ true → t < 16 → 1 ≤ o → o ≤ 16 * n → (k : ℕ) → k ≤ 8 → Within (learned received w n t o k) n
+  pub learned-within : (received : List ℕ) (t o : ℕ) → areaSound received n ≡ true → t < txnCount → 1 ≤ o → o ≤ objectCount n → (k : ℕ) → k ≤ 8 → Within (learned received w n t o k) n
   unfolding learned
   learned-within received t o sound l p q zero b = h
   learned-within received t o sound l p q (suc f) b =
@@ -242,16 +243,16 @@ module _ (w : List ℕ) (n : ℕ) (some : 1 ≤ n) (h : Within w n) where
   unfolding greyed
   greyed-within o = by-bool (mayMark w n o && isWhite w n o) (λ e. rw e (set-within w n (colourAt n o) 1 h (colour (omega arith) (omega arith)))) (λ e. rw e h)
 
-  pub pass-within : (a p k : ℕ) → a ≤ 2 → p < n → k ≤ 17 * n → Within (withPass w a p k) n
+  pub pass-within : (a p k : ℕ) → a ≤ 2 → p < n → k ≤ stepsTop n → Within (withPass w a p k) n
   pass-within a p k x y z = set-within _ n stepsAt k (set-within _ n passPageAt p (set-within w n phaseAt a h (phase refl x)) (pass-page refl y)) (steps refl z)
 
 module _ (w : List ℕ) (n : ℕ) (some : 1 ≤ n) (h : Within w n) where
   -- a create's and a set's tables
-  pub created-within : (t o : ℕ) → t < 16 → 1 ≤ o → o ≤ 16 * n → Within (gain (gain (gain w (unflushedAt n (pageOf o)) t) (knownAt n o) t) (createdAt n o) t) n
+  pub created-within : (t o : ℕ) → t < txnCount → 1 ≤ o → o ≤ objectCount n → Within (gain (gain (gain w (unflushedAt n (pageOf o)) t) (knownAt n o) t) (createdAt n o) t) n
   created-within t o l p q = gain-within _ n (createdAt n o) t (gain-within _ n (knownAt n o) t (gain-within w n (unflushedAt n (pageOf o)) t h (omega arith) (omega arith) l)
       (omega arith) (omega arith) l) (omega arith) (omega arith) l
 
-  pub pruned-within : (t x : ℕ) → t < 16 → 1 ≤ x → x ≤ 16 * n → Within (pruned w n t x) n
+  pub pruned-within : (t x : ℕ) → t < txnCount → 1 ≤ x → x ≤ objectCount n → Within (pruned w n t x) n
   unfolding pruned
   pruned-within t x l p q = let g = gain-within w n (prunedAt n x) t h (omega arith) (omega arith) l in
       by-bool (isMarking w) (λ e. rw e (greyed-within _ n some g x)) (λ e. rw e g)
@@ -261,15 +262,15 @@ module _ (w : List ℕ) (n : ℕ) (some : 1 ≤ n) (h : Within w n) where
   unfolding unflagged
   unflagged-within = unflag _ (createdAt n 1) (unflag w (prunedAt n 1) h (omega arith) (omega arith)) (omega arith) (omega arith)
     where
-      unflag : (v : List ℕ) (a : ℕ) → Within v n → 5 ≤ a → a + 16 * n ≤ 6 + 51 * n → Within (over (λ m. withoutBit m flag) v a (16 * n)) n
-      unflag v a g p q = over-within (λ m. withoutBit m flag) v n a (16 * n) g (omega arith) (λ i x y z f. without-fits n i x flag (omega arith) (omega arith) f)
+      unflag : (v : List ℕ) (a : ℕ) → Within v n → 5 ≤ a → a + objectCount n ≤ 6 + 51 * n → Within (over (λ m. withoutBit m flag) v a (objectCount n)) n
+      unflag v a g p q = over-within (λ m. withoutBit m flag) v n a (objectCount n) g (omega arith) (λ i x y z f. without-fits n i x flag (omega arith) (omega arith) f)
 
   first-le : (v : List ℕ) (o : ℕ) → firstColour v n o ≤ 2
   first-le v o = by-bool (mayMark v n o && (eqb o root || not (eqb (at v (prunedAt n o)) 0))) (λ e. rw e (omega arith)) (λ e. rw e (omega arith))
 
   pub started-within : Within (passStarted w n) n
   unfolding passStarted
-  started-within = pass-within _ n some (fill-within (λ k. firstColour (unflagged w n) n (k + 1)) (unflagged w n) n (colourAt n 1) (16 * n) unflagged-within
+  started-within = pass-within _ n some (fill-within (λ k. firstColour (unflagged w n) n (k + 1)) (unflagged w n) n (colourAt n 1) (objectCount n) unflagged-within
       (λ j l. colour (omega arith) (first-le (unflagged w n) (j + 1)))) 1 (passFirst w n) 0 (omega arith) (omega arith) (omega arith)
 
   targets-within : (copies : List ℕ) (o k : ℕ) → Within (targetsGreyed copies w n o k) n
@@ -285,7 +286,7 @@ module _ (w : List ℕ) (n : ℕ) (some : 1 ≤ n) (h : Within w n) where
       (λ e. rw e (set-within _ n (colourAt n o) 2 (targets-within copies o 8) (colour (omega arith) (omega arith))))
       (λ e. rw e (set-within w n (colourAt n o) 2 h (colour (omega arith) (omega arith))))
 
-  steps-le : stepsNext w n ≤ 17 * n
+  steps-le : stepsNext w n ≤ stepsTop n
   steps-le = omega arith
 
   pub advanced-within : (p : ℕ) → Within (advanced w n p) n
@@ -302,7 +303,7 @@ module _ (w : List ℕ) (n : ℕ) (some : 1 ≤ n) (h : Within w n) where
   turning-within = pass-within w n some h 2 0 (stepsNext w n) (omega arith) (omega arith) steps-le
 
 -- a set's tables
-pub set-tables-within : (received w : List ℕ) (n t o f v : ℕ) → 1 ≤ n → Within w n → areaSound received n ≡ true → t < 16 → 1 ≤ o → o ≤ 16 * n → f < 8
+pub set-tables-within : (received w : List ℕ) (n t o f v : ℕ) → 1 ≤ n → Within w n → areaSound received n ≡ true → t < txnCount → 1 ≤ o → o ≤ objectCount n → f < slotWords
     → Within (if (prunes received o f v) (pruned (gain w (unflushedAt n (pageOf o)) t) n t (wordOf received o f)) (gain w (unflushedAt n (pageOf o)) t)) n
 set-tables-within received w n t o f v some h sound l p q k =
     let g = gain-within w n (unflushedAt n (pageOf o)) t h (omega arith) (omega arith) l in
@@ -316,7 +317,7 @@ set-tables-within received w n t o f v some h sound l p q k =
     (λ e. rw e g)
 
 -- clear tables
-pub clear-within : (w : List ℕ) (n : ℕ) → 1 ≤ n → length w ≡ 6 + 67 * n → ((i : ℕ) → 2 ≤ i → at w i ≡ 0) → at w 0 ≤ 2 → at w 1 ≤ n → Within w n
+pub clear-within : (w : List ℕ) (n : ℕ) → 1 ≤ n → length w ≡ tableWords n → ((i : ℕ) → 2 ≤ i → at w i ≡ 0) → at w 0 ≤ 2 → at w 1 ≤ n → Within w n
 clear-within w n some e c a b = record {
   size = e;
   fits = λ i l. choose i 1 (λ d. word (omega arith) (at-place w 2 i 0 (omega arith) a))

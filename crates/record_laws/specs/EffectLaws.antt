@@ -9,7 +9,7 @@ use native.Mathlib.Omega.{arith}
 use borrow.Author.Tests.{ne-eqb}
 use Rattle.words.specs.Tests.{if, by-bool}
 use Rattle.words.specs.Bits.{bit, withoutBit}
-use Rattle.pages.specs.Geometry.{pageOf, slotOf}
+use Rattle.pages.specs.Geometry.{pageOf, slotOf, pageWords}
 use Rattle.page_laws.specs.Places.{length-released-in}
 use Rattle.page_laws.specs.ViewLaws.{length-taken, length-freed}
 use Rattle.records.specs.declared.Record.{Record}
@@ -20,8 +20,8 @@ use Rattle.records.specs.Recovery.{redone, undoneIn, recovered}
 use Rattle.records.specs.Order.{openIn}
 
 -- a record that is sound among n pages, as an area of n pages takes it
-pub sound-for : (n : ℕ) (a : List ℕ) (r : Record) → length a ≡ 129 * n → recordSound n r ≡ true → recordSound (length a / 129) r ≡ true
-sound-for n a r h e = let k : length a / 129 ≡ n = omega arith in rw k e
+pub sound-for : (n : ℕ) (a : List ℕ) (r : Record) → length a ≡ pageWords * n → recordSound n r ≡ true → recordSound (length a / pageWords) r ≡ true
+sound-for n a r h e = let k : length a / pageWords ≡ n = omega arith in rw k e
 
 -- the kinds that change no page
 pub effect-none : (a : List ℕ) (r : Record) → (r .kind ≡ 2 → ⊥) → (r .kind ≡ 3 → ⊥) → (r .kind ≡ 6 → ⊥) → (r .kind ≡ 7 → ⊥) → a ≡ effect a r

@@ -14,10 +14,10 @@ use native.Mathlib.Omega.{arith}
 use borrow.Author.Tests.{ltb-true, leb-true, eqb-true, eqb-false, lt-ltb, le-leb, eq-eqb, ne-eqb, not-true, lt-leb}
 use Rattle.words.specs.Tests.{if, all, any, by-bool, clash, if-t, if-f, and-t, and-f, and-false, and-l, and-r, or-cases, or-false-l, or-false-r, all-at, all-end, all-next, all-stop, all-intro, any-next}
 use Rattle.words.specs.Bits.{bit}
-use Rattle.pages.specs.Geometry.{isObject}
+use Rattle.pages.specs.Geometry.{isObject, objectCount, slotWords}
 use Rattle.page_laws.specs.Places.{object-range}
 use Rattle.records.specs.declared.Record.{Record}
-use Rattle.records.specs.Records.{made, recordAt, recorded, isBegin, isChange, isSweep}
+use Rattle.records.specs.Records.{made, recordAt, recorded, isBegin, isChange, isSweep, recordWords, txnCount}
 use Rattle.records.specs.Soundness.{txnSound, namesObject, objectSound, fieldSound, newSound, referenceSound, wordSound, recordSound, recordsSound}
 use Rattle.records.specs.Order.{openNext, openIn, inOrder, logSound}
 use Rattle.records.specs.Changes.{changesIn}
@@ -53,9 +53,9 @@ pub recorded-length : (g : List ℕ) (i : ℕ) (r : Record) → length (recorded
 recorded-length g i r = simp length-set
 
 -- a word outside of it
-recorded-word : (g : List ℕ) (i : ℕ) (r : Record) (p : ℕ) → ((k : ℕ) → k < 6 → p ≡ 6 * i + k → ⊥) → getD (recorded g i r) p 0 ≡ getD g p 0
+recorded-word : (g : List ℕ) (i : ℕ) (r : Record) (p : ℕ) → ((k : ℕ) → k < 6 → p ≡ recordWords * i + k → ⊥) → getD (recorded g i r) p 0 ≡ getD g p 0
 recorded-word g i r p n =
-    let n₀ : p ≡ 6 * i → ⊥ = λ e. n 0 (omega arith) (omega arith) in
+    let n₀ : p ≡ recordWords * i → ⊥ = λ e. n 0 (omega arith) (omega arith) in
     let n₁ = n 1 (omega arith) in
     let n₂ = n 2 (omega arith) in
     let n₃ = n 3 (omega arith) in
@@ -69,46 +69,46 @@ made-same p q u v x y = cc
 pub recorded-other : (g : List ℕ) (i : ℕ) (r : Record) (j : ℕ) → (j ≡ i → ⊥) → recordAt (recorded g i r) j ≡ recordAt g j
 recorded-other g i r j n =
     made-same
-    (recorded-word g i r (6 * j) (λ k l e. n (omega arith)))
-    (recorded-word g i r (6 * j + 1) (λ k l e. n (omega arith)))
-    (recorded-word g i r (6 * j + 2) (λ k l e. n (omega arith)))
-    (recorded-word g i r (6 * j + 3) (λ k l e. n (omega arith)))
-    (recorded-word g i r (6 * j + 4) (λ k l e. n (omega arith)))
-    (recorded-word g i r (6 * j + 5) (λ k l e. n (omega arith)))
+    (recorded-word g i r (recordWords * j) (λ k l e. n (omega arith)))
+    (recorded-word g i r (recordWords * j + 1) (λ k l e. n (omega arith)))
+    (recorded-word g i r (recordWords * j + 2) (λ k l e. n (omega arith)))
+    (recorded-word g i r (recordWords * j + 3) (λ k l e. n (omega arith)))
+    (recorded-word g i r (recordWords * j + 4) (λ k l e. n (omega arith)))
+    (recorded-word g i r (recordWords * j + 5) (λ k l e. n (omega arith)))
 
 -- a word that stands before one written
 past : (g : List ℕ) (p q v : ℕ) → q < p → getD (set g p v) q 0 ≡ getD g q 0
 past g p q v h = getD-set-other g p q v 0 (λ e. omega arith)
 
-pub recorded-same : (g : List ℕ) (i : ℕ) (r : Record) → 6 * i + 6 ≤ length g → recordAt (recorded g i r) i ≡ r
+pub recorded-same : (g : List ℕ) (i : ℕ) (r : Record) → recordWords * i + recordWords ≤ length g → recordAt (recorded g i r) i ≡ r
 recorded-same g i r h =
-    let g₁ = set g (6 * i) (r .kind) in
-    let g₂ = set g₁ (6 * i + 1) (r .txn) in
-    let g₃ = set g₂ (6 * i + 2) (r .object) in
-    let g₄ = set g₃ (6 * i + 3) (r .field) in
-    let g₅ = set g₄ (6 * i + 4) (r .old) in
+    let g₁ = set g (recordWords * i) (r .kind) in
+    let g₂ = set g₁ (recordWords * i + 1) (r .txn) in
+    let g₃ = set g₂ (recordWords * i + 2) (r .object) in
+    let g₄ = set g₃ (recordWords * i + 3) (r .field) in
+    let g₅ = set g₄ (recordWords * i + 4) (r .old) in
     made-same
-    (past g₅ (6 * i + 5) (6 * i) (r .new) (omega arith)
-    ∙ past g₄ (6 * i + 4) (6 * i) (r .old) (omega arith)
-    ∙ past g₃ (6 * i + 3) (6 * i) (r .field) (omega arith)
-    ∙ past g₂ (6 * i + 2) (6 * i) (r .object) (omega arith)
-    ∙ past g₁ (6 * i + 1) (6 * i) (r .txn) (omega arith)
-    ∙ getD-set-same g (6 * i) (r .kind) 0 (omega arith))
-    (past g₅ (6 * i + 5) (6 * i + 1) (r .new) (omega arith)
-    ∙ past g₄ (6 * i + 4) (6 * i + 1) (r .old) (omega arith)
-    ∙ past g₃ (6 * i + 3) (6 * i + 1) (r .field) (omega arith)
-    ∙ past g₂ (6 * i + 2) (6 * i + 1) (r .object) (omega arith)
-    ∙ getD-set-same g₁ (6 * i + 1) (r .txn) 0 (simp length-set (omega arith)))
-    (past g₅ (6 * i + 5) (6 * i + 2) (r .new) (omega arith)
-    ∙ past g₄ (6 * i + 4) (6 * i + 2) (r .old) (omega arith)
-    ∙ past g₃ (6 * i + 3) (6 * i + 2) (r .field) (omega arith)
-    ∙ getD-set-same g₂ (6 * i + 2) (r .object) 0 (simp length-set (omega arith)))
-    (past g₅ (6 * i + 5) (6 * i + 3) (r .new) (omega arith)
-    ∙ past g₄ (6 * i + 4) (6 * i + 3) (r .old) (omega arith)
-    ∙ getD-set-same g₃ (6 * i + 3) (r .field) 0 (simp length-set (omega arith)))
-    (past g₅ (6 * i + 5) (6 * i + 4) (r .new) (omega arith)
-    ∙ getD-set-same g₄ (6 * i + 4) (r .old) 0 (simp length-set (omega arith)))
-    (getD-set-same g₅ (6 * i + 5) (r .new) 0 (simp length-set (omega arith)))
+    (past g₅ (recordWords * i + 5) (recordWords * i) (r .new) (omega arith)
+    ∙ past g₄ (recordWords * i + 4) (recordWords * i) (r .old) (omega arith)
+    ∙ past g₃ (recordWords * i + 3) (recordWords * i) (r .field) (omega arith)
+    ∙ past g₂ (recordWords * i + 2) (recordWords * i) (r .object) (omega arith)
+    ∙ past g₁ (recordWords * i + 1) (recordWords * i) (r .txn) (omega arith)
+    ∙ getD-set-same g (recordWords * i) (r .kind) 0 (omega arith))
+    (past g₅ (recordWords * i + 5) (recordWords * i + 1) (r .new) (omega arith)
+    ∙ past g₄ (recordWords * i + 4) (recordWords * i + 1) (r .old) (omega arith)
+    ∙ past g₃ (recordWords * i + 3) (recordWords * i + 1) (r .field) (omega arith)
+    ∙ past g₂ (recordWords * i + 2) (recordWords * i + 1) (r .object) (omega arith)
+    ∙ getD-set-same g₁ (recordWords * i + 1) (r .txn) 0 (simp length-set (omega arith)))
+    (past g₅ (recordWords * i + 5) (recordWords * i + 2) (r .new) (omega arith)
+    ∙ past g₄ (recordWords * i + 4) (recordWords * i + 2) (r .old) (omega arith)
+    ∙ past g₃ (recordWords * i + 3) (recordWords * i + 2) (r .field) (omega arith)
+    ∙ getD-set-same g₂ (recordWords * i + 2) (r .object) 0 (simp length-set (omega arith)))
+    (past g₅ (recordWords * i + 5) (recordWords * i + 3) (r .new) (omega arith)
+    ∙ past g₄ (recordWords * i + 4) (recordWords * i + 3) (r .old) (omega arith)
+    ∙ getD-set-same g₃ (recordWords * i + 3) (r .field) 0 (simp length-set (omega arith)))
+    (past g₅ (recordWords * i + 5) (recordWords * i + 4) (r .new) (omega arith)
+    ∙ getD-set-same g₄ (recordWords * i + 4) (r .old) 0 (simp length-set (omega arith)))
+    (getD-set-same g₅ (recordWords * i + 5) (r .new) 0 (simp length-set (omega arith)))
 
 -- soundness
 
@@ -134,8 +134,8 @@ unfolding logSound recordsSound
 log-sound-records n g c h = all-intro _ c (λ i l. and-l _ (inOrder (openIn g i) (recordAt g i)) (all-at (λ j. recordSound n (recordAt g j) && inOrder (openIn g j) (recordAt g j)) c i h l))
 
 -- a record that is sound among n pages is sound among more
-leb-wider : {n m : ℕ} (x : ℕ) → n ≤ m → leb x (16 * n) ≡ true → leb x (16 * m) ≡ true
-leb-wider {n} {m} x l h = le-leb x (16 * m) (let k = leb-true x (16 * n) h in omega arith)
+leb-wider : {n m : ℕ} (x : ℕ) → n ≤ m → leb x (objectCount n) ≡ true → leb x (objectCount m) ≡ true
+leb-wider {n} {m} x l h = le-leb x (objectCount m) (let k = leb-true x (objectCount n) h in omega arith)
 
 ltb-wider : {n m : ℕ} (x : ℕ) → n ≤ m → ltb x n ≡ true → ltb x m ≡ true
 ltb-wider {n} {m} x l h = lt-ltb x m (let k = ltb-true x n h in omega arith)
@@ -175,43 +175,43 @@ records-sound-wider n m g c l h = all-intro _ c (λ i k. record-sound-wider n m 
 pub record SoundRecord (n : ℕ) (r : Record) : Type 0 where
   pub kind-from : 1 ≤ r .kind
   pub kind-to : r .kind ≤ 7
-  pub txn-below : r .txn < 16
-  pub field-below : r .field < 8
-  pub create : r .kind ≡ 2 → (1 < r .object) × (r .object ≤ 16 * n)
-  pub write : r .kind ≡ 3 → (1 ≤ r .object) × (r .object ≤ 16 * n)
-  pub uncreate : r .kind ≡ 6 → (1 < r .object) × (r .object ≤ 16 * n)
+  pub txn-below : r .txn < txnCount
+  pub field-below : r .field < slotWords
+  pub create : r .kind ≡ 2 → (1 < r .object) × (r .object ≤ objectCount n)
+  pub write : r .kind ≡ 3 → (1 ≤ r .object) × (r .object ≤ objectCount n)
+  pub uncreate : r .kind ≡ 6 → (1 < r .object) × (r .object ≤ objectCount n)
   pub sweep : r .kind ≡ 7 → (r .object < n) × (r .new < 65536)
   pub sweep-txn : r .kind ≡ 7 → r .txn ≡ 0
   pub sweep-root : r .kind ≡ 7 → r .object ≡ 0 → bit (r .new) 0 ≡ false
-  pub old-reference : r .kind ≡ 3 → r .field < 4 → r .old ≤ 16 * n
-  pub new-reference : r .kind ≡ 3 → r .field < 4 → r .new ≤ 16 * n
+  pub old-reference : r .kind ≡ 3 → r .field < 4 → r .old ≤ objectCount n
+  pub new-reference : r .kind ≡ 3 → r .field < 4 → r .new ≤ objectCount n
   pub object-unused : namesPage r ≡ false → r .object ≡ 0
   pub field-unused : (r .kind ≡ 3 → ⊥) → r .field ≡ 0
   pub old-unused : (r .kind ≡ 3 → ⊥) → r .old ≡ 0
   pub new-unused : (r .kind ≡ 3 → ⊥) → (r .kind ≡ 7 → ⊥) → r .new ≡ 0
 
 -- an object that a record names, and one that is not the root
-named : (n o : ℕ) (x : Bool) → isObject n o && x ≡ true → (1 ≤ o) × (o ≤ 16 * n)
+named : (n o : ℕ) (x : Bool) → isObject n o && x ≡ true → (1 ≤ o) × (o ≤ objectCount n)
 named n o x h = object-range n o (and-l (isObject n o) x h)
 
-named-not-root : (n o : ℕ) → isObject n o && not (eqb o 1) ≡ true → (1 < o) × (o ≤ 16 * n)
+named-not-root : (n o : ℕ) → isObject n o && not (eqb o 1) ≡ true → (1 < o) × (o ≤ objectCount n)
 named-not-root n o h =
     let p = named n o (not (eqb o 1)) h in
     let e = eqb-false o 1 (not-true (eqb o 1) (and-r (isObject n o) (not (eqb o 1)) h)) in
     (elim (ℕ-discrete o 1) [ yes q ↦ absurd (e q) | no q ↦ (omega arith) ], p .1)
 
-sound-txn : (r : Record) → txnSound r ≡ true → r .txn < 16
+sound-txn : (r : Record) → txnSound r ≡ true → r .txn < txnCount
 sound-txn r h = by-bool (eqb (r .kind) 7)
-    (λ e. let k : r .txn ≡ 0 = eqb-true _ _ (sym (if-t _ _ (ltb (r .txn) 16) e) ∙ h) in omega arith)
+    (λ e. let k : r .txn ≡ 0 = eqb-true _ _ (sym (if-t _ _ (ltb (r .txn) txnCount) e) ∙ h) in omega arith)
     (λ e. ltb-true _ _ (sym (if-f _ (eqb (r .txn) 0) _ e) ∙ h))
 
-sound-field : (r : Record) → fieldSound r ≡ true → r .field < 8
+sound-field : (r : Record) → fieldSound r ≡ true → r .field < slotWords
 sound-field r h = by-bool (eqb (r .kind) 3)
     (λ e. ltb-true _ _ (sym (if-t _ _ (eqb (r .field) 0) e) ∙ h))
     (λ e. let k : r .field ≡ 0 = eqb-true _ _ (sym (if-f _ (ltb (r .field) 8) _ e) ∙ h) in omega arith)
 
-sound-reference : (n f v : ℕ) → leb 4 f || leb v (16 * n) ≡ true → f < 4 → v ≤ 16 * n
-sound-reference n f v h l = leb-true v (16 * n) (rw (lt-leb 4 f l) at h)
+sound-reference : (n f v : ℕ) → leb 4 f || leb v (objectCount n) ≡ true → f < 4 → v ≤ objectCount n
+sound-reference n f v h l = leb-true v (objectCount n) (rw (lt-leb 4 f l) at h)
 
 pub sound-record : (n : ℕ) (r : Record) → recordSound n r ≡ true → SoundRecord n r
 unfolding recordSound wordSound
@@ -259,7 +259,7 @@ named-kinds r e a b d = elim (or-cases (eqb (r .kind) 2 || eqb (r .kind) 3) (eqb
   | inr p ↦ d (eqb-true _ _ p)
 ]
 
-pub named-object : (n : ℕ) (r : Record) → SoundRecord n r → namesObject r ≡ true → (1 ≤ r .object) × (r .object ≤ 16 * n)
+pub named-object : (n : ℕ) (r : Record) → SoundRecord n r → namesObject r ≡ true → (1 ≤ r .object) × (r .object ≤ objectCount n)
 named-object n r s e = named-kinds r e
     (λ k. let h = s .create k in (omega arith, h .1))
     (s .write)
@@ -366,7 +366,7 @@ module _ (g h : List ℕ) where
 
 -- a record appended
 
-module _ (g : List ℕ) (c : ℕ) (r : Record) (h : 6 * c + 6 ≤ length g) where
+module _ (g : List ℕ) (c : ℕ) (r : Record) (h : recordWords * c + recordWords ≤ length g) where
   same-before : Agree (recorded g c r) g c
   same-before = recorded-agrees g c r c (omega arith)
 

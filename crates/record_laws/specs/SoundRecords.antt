@@ -9,42 +9,42 @@ use borrow.Author.Tests.{lt-ltb, le-leb, ne-eqb, eqb-true}
 use mathlib.Core.Logic.{inl, inr}
 use Rattle.words.specs.Tests.{all, by-bool, or-cases, or-l, or-r}
 use Rattle.words.specs.Bits.{bit}
-use Rattle.pages.specs.Geometry.{pageOf, slotOf, root}
+use Rattle.pages.specs.Geometry.{pageOf, slotOf, root, objectCount, slotWords}
 use Rattle.records.specs.declared.Record.{Record}
-use Rattle.records.specs.Records.{beginOf, createOf, setOf, commitOf, abortedOf, uncreateOf, sweepOf}
+use Rattle.records.specs.Records.{beginOf, createOf, setOf, commitOf, abortedOf, uncreateOf, sweepOf, txnCount}
 use Rattle.records.specs.Soundness.{wordSound, recordSound}
 use Rattle.records.specs.Effects.{undoing}
 use Rattle.record_laws.specs.RecordLaws.{SoundRecord, sound-record}
 
 -- a word that may stand in a reference
-reference : (n f v : ℕ) → (f < 4 → v ≤ 16 * n) → leb 4 f || leb v (16 * n) ≡ true
-reference n f v h = elim (decLe 4 f) [ yes e ↦ or-l (leb 4 f) (leb v (16 * n)) (le-leb 4 f e) | no e ↦ or-r (leb 4 f) (leb v (16 * n)) (le-leb v (16 * n) (h (omega arith))) ]
+reference : (n f v : ℕ) → (f < 4 → v ≤ objectCount n) → leb 4 f || leb v (objectCount n) ≡ true
+reference n f v h = elim (decLe 4 f) [ yes e ↦ or-l (leb 4 f) (leb v (objectCount n)) (le-leb 4 f e) | no e ↦ or-r (leb 4 f) (leb v (objectCount n)) (le-leb v (objectCount n) (h (omega arith))) ]
 
-module _ (n t : ℕ) (h : t < 16) where
+module _ (n t : ℕ) (h : t < txnCount) where
   pub begin-sound : recordSound n (beginOf t) ≡ true
   unfolding recordSound wordSound all
-  begin-sound = rw (lt-ltb t 16 h)
+  begin-sound = rw (lt-ltb t txnCount h)
 
   pub commit-sound : recordSound n (commitOf t) ≡ true
   unfolding recordSound wordSound all
-  commit-sound = rw (lt-ltb t 16 h)
+  commit-sound = rw (lt-ltb t txnCount h)
 
   pub aborted-sound : recordSound n (abortedOf t) ≡ true
   unfolding recordSound wordSound all
-  aborted-sound = rw (lt-ltb t 16 h)
+  aborted-sound = rw (lt-ltb t txnCount h)
 
-  module _ (o : ℕ) (high : o ≤ 16 * n) where
+  module _ (o : ℕ) (high : o ≤ objectCount n) where
     pub create-sound : 1 < o → recordSound n (createOf t o) ≡ true
     unfolding recordSound wordSound all
-    create-sound l = rw (lt-ltb t 16 h, le-leb 1 o (omega arith), le-leb o (16 * n) high, ne-eqb o 1 (λ e. omega arith))
+    create-sound l = rw (lt-ltb t txnCount h, le-leb 1 o (omega arith), le-leb o (objectCount n) high, ne-eqb o 1 (λ e. omega arith))
 
     pub uncreate-sound : 1 < o → recordSound n (uncreateOf t o) ≡ true
     unfolding recordSound wordSound all
-    uncreate-sound l = rw (lt-ltb t 16 h, le-leb 1 o (omega arith), le-leb o (16 * n) high, ne-eqb o 1 (λ e. omega arith))
+    uncreate-sound l = rw (lt-ltb t txnCount h, le-leb 1 o (omega arith), le-leb o (objectCount n) high, ne-eqb o 1 (λ e. omega arith))
 
-    pub set-sound : (f a b : ℕ) → 1 ≤ o → f < 8 → (f < 4 → a ≤ 16 * n) → (f < 4 → b ≤ 16 * n) → recordSound n (setOf t o f a b) ≡ true
+    pub set-sound : (f a b : ℕ) → 1 ≤ o → f < slotWords → (f < 4 → a ≤ objectCount n) → (f < 4 → b ≤ objectCount n) → recordSound n (setOf t o f a b) ≡ true
     unfolding recordSound wordSound all
-    set-sound f a b l w old new = rw (lt-ltb t 16 h, le-leb 1 o l, le-leb o (16 * n) high, lt-ltb f 8 w, reference n f a old, reference n f b new)
+    set-sound f a b l w old new = rw (lt-ltb t txnCount h, le-leb 1 o l, le-leb o (objectCount n) high, lt-ltb f slotWords w, reference n f a old, reference n f b new)
 
 pub sweep-sound : (n p m : ℕ) → p < n → m < 65536 → eqb p (pageOf root) && bit m (slotOf root) ≡ false → recordSound n (sweepOf p m) ≡ true
 unfolding recordSound wordSound all

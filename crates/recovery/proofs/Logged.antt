@@ -19,12 +19,13 @@ use Rattle.recovery.specs.Shapes.{shapes, recs}
 use Rattle.recovery.proofs.Shapes.{replay-shape}
 use Rattle.recovery.proofs.Appending.{recs-more, log-more}
 use Rattle.recovery.proofs.Maps.{Small, small-effect}
+use Rattle.pages.specs.Geometry.{pageWords}
 
 -- log g of c records rs over the base, all sound and in order, and area a that shows them
 pub record Logged (n : ℕ) (base : ℕ → Obj) (a g : List ℕ) (c : ℕ) (rs : List Record) : Type 0 where
   pub records : recs g c ≡ rs
   pub sound : logSound n g c ≡ true
-  pub size : length a ≡ 129 * n
+  pub size : length a ≡ pageWords * n
   pub small : Small n a
   pub shown : (x : ℕ) → view a x ≡ replay base x (shapes rs)
 

@@ -11,7 +11,7 @@ use lib.Seq.{getD-set-same, getD-set-other}
 use lib.Dec.{eqb}
 use borrow.Author.Tests.{eqb-true, eqb-false, eq-eqb}
 use Rattle.words.specs.Tests.{if, by-bool, clash}
-use Rattle.pages.specs.Geometry.{pageOf}
+use Rattle.pages.specs.Geometry.{pageOf, maxPages}
 use Rattle.records.specs.declared.Record.{Record}
 use Rattle.records.specs.Records.{recordAt}
 use Rattle.records.specs.Naming.{namesPage, pageNamed, lastNaming}
@@ -48,7 +48,7 @@ length-last g (suc i) = by-bool (namesPage (recordAt g i))
     (λ e. rw e (length-last g i))
 
 -- what the table says after one more record
-last-more : (g : List ℕ) (i p : ℕ) → p < 256
+last-more : (g : List ℕ) (i p : ℕ) → p < maxPages
     → getD (lastNaming g (suc i)) p 0 ≡ if (namesIt (recordAt g i) p) (i + 1) (getD (lastNaming g i) p 0)
 unfolding lastNaming
 last-more g i p l = by-bool (namesPage (recordAt g i))
@@ -57,7 +57,7 @@ last-more g i p l = by-bool (namesPage (recordAt g i))
     (λ z. rw z (getD-set-other (lastNaming g i) (pageNamed (recordAt g i)) p (i + 1) 0 (λ y. eqb-false (pageNamed (recordAt g i)) p z (sym y))))))
     (λ e. rw e refl)
 
-module _ (g : List ℕ) (k p : ℕ) (l : p < 256) where
+module _ (g : List ℕ) (k p : ℕ) (l : p < maxPages) where
   -- the records from k on do not name the page
   step-back : (i : ℕ) → k ≤ i → getD (lastNaming g (suc i)) p 0 ≤ k → (namesIt (recordAt g i) p ≡ false) × (getD (lastNaming g i) p 0 ≤ k)
   step-back i m h = by-bool (namesIt (recordAt g i) p)

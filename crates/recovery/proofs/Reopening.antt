@@ -21,6 +21,7 @@ use Rattle.recovery.specs.Lines.{everyone, replay, undo}
 use Rattle.recovery.specs.Shapes.{shapes, recs}
 use Rattle.recovery.proofs.Shapes.{counted, replay-shape, undo-shape, unapplied-none}
 use Rattle.recovery.proofs.Masks.{maskBefore, mask-before, mask-here}
+use Rattle.pages.specs.Geometry.{pageWords}
 
 -- each of the first c records, taken by itself; in order
 abbrev pub EachSound : ℕ → List ℕ → ℕ → Type 0
@@ -37,7 +38,7 @@ log-sound n g c h = (λ i l. at i l .0, λ i l. at i l .1)
     at i l = and-split _ _ (all-at (λ i. recordSound n (recordAt g i) && inOrder (openIn g i) (recordAt g i)) c i h l)
 
 -- redoing
-module _ (n : ℕ) (a g : List ℕ) (len : length a ≡ 129 * n) where
+module _ (n : ℕ) (a g : List ℕ) (len : length a ≡ pageWords * n) where
   pub redone-view : (c : ℕ) → EachSound n g c → (x : ℕ) → view (redone a g c) x ≡ replay (view a) x (shapes (recs g c))
   unfolding redone recs shapes replay
   redone-view zero s x = refl
@@ -47,7 +48,7 @@ module _ (n : ℕ) (a g : List ℕ) (len : length a ≡ 129 * n) where
       ∙ sym (replay-shape (view a) (recordAt g i) x (shapes (recs g i)))
 
 -- undoing one record where the mask says so
-module _ (n : ℕ) (a : List ℕ) (len : length a ≡ 129 * n) (r : Record) (ok : recordSound n r ≡ true) where
+module _ (n : ℕ) (a : List ℕ) (len : length a ≡ pageWords * n) (r : Record) (ok : recordSound n r ≡ true) where
   undone-if : (b : Bool) (x : ℕ) → view (if b (undone a r) a) x ≡ if b (unapplied r x (view a x)) (view a x)
   undone-if true x = undone-view n a len r ok x
   undone-if false x = refl
@@ -64,7 +65,7 @@ module _ (n : ℕ) (a : List ℕ) (len : length a ≡ 129 * n) (r : Record) (ok 
 
 module _ (n : ℕ) (g : List ℕ) where
   -- w counts the transactions that are not ended by a later record; the mask has those of them that are open
-  pub undone-in-view : (m c : ℕ) (a : List ℕ) (w : ℕ → Bool) → length a ≡ 129 * n → EachSound n g c → InOrder g c
+  pub undone-in-view : (m c : ℕ) (a : List ℕ) (w : ℕ → Bool) → length a ≡ pageWords * n → EachSound n g c → InOrder g c
       → ((t : ℕ) → bit m t ≡ (bit (openIn g c) t && w t))
       → (x : ℕ) → view (undoneIn g m c a) x ≡ undo x w (shapes (recs g c)) (view a x)
   unfolding undoneIn recs shapes undo openIn
@@ -78,7 +79,7 @@ module _ (n : ℕ) (g : List ℕ) where
       (λ e. mask-here m (openIn g i) w (recordAt g i) h e (o i (omega arith))) x)
       ∙ sym (undo-shape w (recordAt g i) x (shapes (recs g i)) (view a x))
 
-module _ (n : ℕ) (a g : List ℕ) (c : ℕ) (len : length a ≡ 129 * n) (s : logSound n g c ≡ true) where
+module _ (n : ℕ) (a g : List ℕ) (c : ℕ) (len : length a ≡ pageWords * n) (s : logSound n g c ≡ true) where
   -- reopening leaves the lines' effect, with what did not end undone
   pub recovered-view : (x : ℕ) → view (recovered a g c) x ≡ undo x everyone (shapes (recs g c)) (replay (view a) x (shapes (recs g c)))
   unfolding recovered

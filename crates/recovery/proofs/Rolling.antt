@@ -14,7 +14,7 @@ use borrow.Author.Tests.{eqb-true}
 use Rattle.words.specs.Tests.{by-bool, and-split, or-cases}
 use Rattle.words.specs.Bits.{bit}
 use Rattle.records.specs.declared.Record.{Record}
-use Rattle.records.specs.Records.{recordAt, recorded, isBegin, isChange, abortedOf}
+use Rattle.records.specs.Records.{recordAt, recorded, isBegin, isChange, abortedOf, recordWords, txnCount}
 use Rattle.records.specs.Effects.{undoing}
 use Rattle.records.specs.Soundness.{recordSound}
 use Rattle.records.specs.Order.{openIn, openNext, inOrder}
@@ -51,13 +51,13 @@ changes-undoable n g t (suc i) s = by-bool (isBegin (recordAt g i) t)
 -- the store's log: c records rs over the base, with room for m more
 pub record Kept (n : ℕ) (base : ℕ → Obj) (s : Areas) (rs : List Record) (m : ℕ) : Type 0 where
   pub logged : Logged n base (s .received) (s .log) (receivedCount s) rs
-  pub room : 6 * (receivedCount s + m) ≤ length (s .log)
+  pub room : recordWords * (receivedCount s + m) ≤ length (s .log)
   pub counted : 0 < length (s .counts)
 
 kept-less : {n : ℕ} {base : ℕ → Obj} {s : Areas} {rs : List Record} {k : ℕ} (m : ℕ) → m ≤ k → Kept n base s rs k → Kept n base s rs m
 kept-less m l k = record { logged = k .logged; room = let h = k .room in omega arith; counted = k .counted }
 
-module _ (same : (g : List ℕ) (i : ℕ) (r : Record) → 6 * i + 6 ≤ length g → recordAt (recorded g i r) i ≡ r)
+module _ (same : (g : List ℕ) (i : ℕ) (r : Record) → recordWords * i + recordWords ≤ length g → recordAt (recorded g i r) i ≡ r)
     (other : (g : List ℕ) (i : ℕ) (r : Record) (j : ℕ) → (j ≡ i → ⊥) → recordAt (recorded g i r) j ≡ recordAt g j)
     (size : (g : List ℕ) (i : ℕ) (r : Record) → length (recorded g i r) ≡ length g)
     (n : ℕ) (base : ℕ → Obj) where
@@ -102,7 +102,7 @@ module _ (same : (g : List ℕ) (i : ℕ) (r : Record) → 6 * i + 6 ≤ length 
       let on = rolled-kept g t is (appended s (undoing r)) (undoing r ∷ rs) m (u .3) (rw still o) more in (on .0, on .1 ∙ still)
 
   -- the whole abort, with room for its records
-  pub aborted-kept : (s : Areas) (rs : List Record) (t m : ℕ) → t < 16 → bit (openIn (s .log) (receivedCount s)) t ≡ true → Kept n base s rs (length (changesOf s t) + suc m)
+  pub aborted-kept : (s : Areas) (rs : List Record) (t m : ℕ) → t < txnCount → bit (openIn (s .log) (receivedCount s)) t ≡ true → Kept n base s rs (length (changesOf s t) + suc m)
       → Kept n base (appended (rolledBack (s .log) (changesOf s t) s) (abortedOf t)) (abortedOf t ∷ undoings t rs rs) m
   aborted-kept s rs t m l o k =
       let g = s .log in let c = receivedCount s in

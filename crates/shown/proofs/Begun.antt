@@ -8,8 +8,8 @@ use mathlib.Core.Logic.{inl, inr}
 use lib.ListN.{length}
 use lib.Dec.{eqb}
 use Rattle.words.specs.Bits.{withoutBit, bit-without}
-use Rattle.pages.specs.Geometry.{root}
-use Rattle.areas.specs.Layout.{activeAt, knownAt, prunedAt}
+use Rattle.pages.specs.Geometry.{root, objectCount}
+use Rattle.areas.specs.Layout.{activeAt, knownAt, prunedAt, tableWords}
 use Rattle.areas.specs.Tables.{gain}
 use Rattle.calls.specs.Transactions.{leaves, knowsRoot}
 use Rattle.collector.specs.Bits.{_and_, _or_, or-false}
@@ -17,6 +17,7 @@ use Rattle.collector.specs.State.{add, drop}
 use Rattle.shown.specs.Tables.{objectBit, locksOf, tablesOf, passOf}
 use Rattle.shown.proofs.Frames.{Beside, beside-self, beside-gain, beside-over, wider, later, locks-ext, tables-ext, page-kept, object-kept, flag-kept, locks-kept, pass-kept}
 use Rattle.shown.proofs.Masks.{object-gain, object-drop, over-object, active-gain}
+use Rattle.records.specs.Records.{txnCount}
 
 -- t's entries go and one comes: that entry is all that t has
 only : (txn same old : Bool) → ((not txn and old) or (txn and same)) ≡ cond txn same old
@@ -31,10 +32,10 @@ module _ (w : List ℕ) (n t : ℕ) where
   active = gain w activeAt t
 
   abbrev unknowing : List ℕ
-  unknowing = leaves t active (knownAt n 1) (16 * n)
+  unknowing = leaves t active (knownAt n 1) (objectCount n)
 
   knowing : Beside (knownAt n 1) (prunedAt n 1) active unknowing
-  knowing = wider (beside-over _ active (knownAt n 1) (16 * n)) (omega arith) (omega arith)
+  knowing = wider (beside-over _ active (knownAt n 1) (objectCount n)) (omega arith) (omega arith)
 
   module _ (some : 1 ≤ n) where
     behind : Beside (knownAt n 1) (prunedAt n 1) active (knowsRoot active n t)
@@ -46,7 +47,7 @@ module _ (w : List ℕ) (n t : ℕ) where
     pub begin-pass : passOf (knowsRoot active n t) n ≡ passOf w n
     begin-pass = pass-kept begin-beside n (inr (omega arith)) (inl (omega arith))
 
-    module _ (len : length w ≡ 6 + 67 * n) (small : t < 16) where
+    module _ (len : length w ≡ tableWords n) (small : t < txnCount) where
       pub begin-locks : locksOf (knowsRoot active n t) n ≡ record { act = λ u. locksOf w n .act u or eqb u t; rd = locksOf w n .rd; wr = locksOf w n .wr }
       begin-locks = locks-kept behind n (inr (omega arith)) ∙ locks-ext _ _ (active-gain w activeAt t (omega arith) small)
           (page-kept (beside-gain w activeAt t) n _ (inl (omega arith)))

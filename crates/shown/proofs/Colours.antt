@@ -9,7 +9,7 @@ use lib.Seq.{getD-set-same, getD-set-other}
 use lib.Dec.{eqb}
 use borrow.Author.Tests.{eqb-true, eqb-false}
 use Rattle.words.specs.Tests.{by-bool}
-use Rattle.pages.specs.Geometry.{isObject}
+use Rattle.pages.specs.Geometry.{isObject, objectCount}
 use Rattle.areas.specs.Layout.{colourAt, tableWords}
 use Rattle.areas.specs.Tables as Tables
 use Rattle.areas.specs.Tables.{at, coloured, isWhite, mayMark}
@@ -18,7 +18,7 @@ use Rattle.page_laws.specs.Places.{object-range}
 use Rattle.shown.specs.Tables.{colourOf, colourAtObject}
 use Rattle.shown.proofs.Frames.{Beside, beside-self, beside-set, wider, is-object}
 
-pub grey-beside : (w : List ℕ) (n x : ℕ) → 1 ≤ x → x ≤ 16 * n → Beside (colourAt n 1) (tableWords n) w (Tables.greyed w n x)
+pub grey-beside : (w : List ℕ) (n x : ℕ) → 1 ≤ x → x ≤ objectCount n → Beside (colourAt n 1) (tableWords n) w (Tables.greyed w n x)
 unfolding Tables.greyed
 grey-beside w n x low top = by-bool (mayMark w n x && isWhite w n x)
     (λ e. rw e (wider (beside-set w (colourAt n x) 1) (omega arith) (omega arith)))
@@ -32,7 +32,7 @@ coloured-on zero e = absurd (eqb-false 0 0 e refl)
 coloured-on (suc zero) e = refl
 coloured-on (suc (suc m)) e = refl
 
-module _ (w : List ℕ) (n x : ℕ) (low : 1 ≤ x) (top : x ≤ 16 * n) (len : length w ≡ 6 + 67 * n) where
+module _ (w : List ℕ) (n x : ℕ) (low : 1 ≤ x) (top : x ≤ objectCount n) (len : length w ≡ tableWords n) where
   elsewhere : (y : ℕ) → isObject n y ≡ true → eqb y x ≡ false → at (coloured w n x 1) (colourAt n y) ≡ at w (colourAt n y)
   elsewhere y l e = getD-set-other w (colourAt n x) (colourAt n y) 1 0 (λ z. eqb-false y x e (let k = object-range n y l .0 in omega arith))
 

@@ -6,20 +6,21 @@ use mathlib.Core.Bool.{Bool}
 use mathlib.Core.List.{List}
 use mathlib.Core.Logic.{inl, inr}
 use lib.ListN.{length}
-use Rattle.pages.specs.Geometry.{pageOf}
-use Rattle.areas.specs.Layout.{unflushedAt, knownAt, createdAt, colourAt}
+use Rattle.pages.specs.Geometry.{pageOf, objectCount}
+use Rattle.areas.specs.Layout.{unflushedAt, knownAt, createdAt, colourAt, tableWords}
 use Rattle.areas.specs.Tables.{gain}
 use Rattle.collector.specs.Objects as Objects
 use Rattle.collector.specs.State.{add}
 use Rattle.shown.specs.Tables.{locksOf, tablesOf, passOf}
 use Rattle.shown.proofs.Frames.{Beside, beside-gain, wider, later, tables-ext, page-kept, object-kept, flag-kept, locks-kept, pass-kept}
 use Rattle.shown.proofs.Masks.{page-gain, object-gain, flag-gain}
+use Rattle.records.specs.Records.{txnCount}
 
 -- 't knows it and the COT gains it for t'
 abbrev pub makes : List ℕ → ℕ → ℕ → ℕ → List ℕ
 makes w n t o = gain (gain (gain w (unflushedAt n (pageOf o)) t) (knownAt n o) t) (createdAt n o) t
 
-module _ (w : List ℕ) (n t o : ℕ) (low : 1 ≤ o) (top : o ≤ 16 * n) where
+module _ (w : List ℕ) (n t o : ℕ) (low : 1 ≤ o) (top : o ≤ objectCount n) where
   abbrev w1 : List ℕ
   w1 = gain w (unflushedAt n (pageOf o)) t
 
@@ -41,7 +42,7 @@ module _ (w : List ℕ) (n t o : ℕ) (low : 1 ≤ o) (top : o ≤ 16 * n) where
   pub create-pass : passOf (makes w n t o) n ≡ passOf w n
   create-pass = pass-kept create-beside n (inr (omega arith)) (inl (omega arith))
 
-  pub create-tables : length w ≡ 6 + 67 * n → t < 16 → tablesOf (makes w n t o) n ≡ record {
+  pub create-tables : length w ≡ tableWords n → t < txnCount → tablesOf (makes w n t o) n ≡ record {
     kn = add (tablesOf w n .kn) t o;
     prt = tablesOf w n .prt;
     cot = add (tablesOf w n .cot) t o;

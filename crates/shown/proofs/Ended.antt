@@ -9,8 +9,8 @@ use lib.ListN.{length}
 use lib.Seq.{getD-set-same}
 use lib.Dec.{eqb}
 use Rattle.words.specs.Bits.{withoutBit, bit-without}
-use Rattle.pages.specs.Geometry.{isObject}
-use Rattle.areas.specs.Layout.{phaseAt, activeAt, readersAt, writersAt, unflushedAt, knownAt, prunedAt, createdAt, colourAt}
+use Rattle.pages.specs.Geometry.{isObject, objectCount}
+use Rattle.areas.specs.Layout.{phaseAt, activeAt, readersAt, writersAt, unflushedAt, knownAt, prunedAt, createdAt, colourAt, tableWords}
 use Rattle.areas.specs.Tables.{at, lose, passRuns}
 use Rattle.calls.specs.Transactions.{leaves, endedEntry, endedEntries, endedTables}
 use Rattle.collector.specs.Bits.{_and_, _or_}
@@ -19,6 +19,7 @@ use Rattle.shown.specs.Tables.{objectBit, flagBit, locksOf, tablesOf, pa
 use Rattle.shown.proofs.Frames.{Beside, beside-self, beside-set, beside-over, wider, later, locks-ext, tables-ext, pass-kept}
 use Rattle.shown.proofs.Masks.{page-drop, object-drop, over-page, over-object, ended-bit, flag-ended, active-drop}
 use Rattle.shown.proofs.Phases.{runs-phase}
+use Rattle.records.specs.Records.{txnCount}
 
 module _ (w : List ℕ) (n t : ℕ) where
   -- the stages, as the definition has them
@@ -35,13 +36,13 @@ module _ (w : List ℕ) (n t : ℕ) where
   w4 = leaves t w3 (unflushedAt n 0) n
 
   abbrev w5 : List ℕ
-  w5 = leaves t w4 (knownAt n 1) (16 * n)
+  w5 = leaves t w4 (knownAt n 1) (objectCount n)
 
   abbrev w6 : List ℕ
-  w6 = endedEntries t w5 (prunedAt n 1) (16 * n)
+  w6 = endedEntries t w5 (prunedAt n 1) (objectCount n)
 
   abbrev w7 : List ℕ
-  w7 = endedEntries t w6 (createdAt n 1) (16 * n)
+  w7 = endedEntries t w6 (createdAt n 1) (objectCount n)
 
   -- each stage changes the words behind those of the stages before it
   one : Beside activeAt (readersAt n 0) w w1
@@ -57,19 +58,19 @@ module _ (w : List ℕ) (n t : ℕ) where
   four = later (wider three (omega arith) (omega arith)) (wider (beside-over _ w3 (unflushedAt n 0) n) (omega arith) (omega arith))
 
   five : Beside activeAt (prunedAt n 1) w w5
-  five = later (wider four (omega arith) (omega arith)) (wider (beside-over _ w4 (knownAt n 1) (16 * n)) (omega arith) (omega arith))
+  five = later (wider four (omega arith) (omega arith)) (wider (beside-over _ w4 (knownAt n 1) (objectCount n)) (omega arith) (omega arith))
 
   six : Beside activeAt (createdAt n 1) w w6
-  six = later (wider five (omega arith) (omega arith)) (wider (beside-over _ w5 (prunedAt n 1) (16 * n)) (omega arith) (omega arith))
+  six = later (wider five (omega arith) (omega arith)) (wider (beside-over _ w5 (prunedAt n 1) (objectCount n)) (omega arith) (omega arith))
 
   from6 : Beside (createdAt n 1) (colourAt n 1) w6 w7
-  from6 = wider (beside-over _ w6 (createdAt n 1) (16 * n)) (omega arith) (omega arith)
+  from6 = wider (beside-over _ w6 (createdAt n 1) (objectCount n)) (omega arith) (omega arith)
 
   from5 : Beside (prunedAt n 1) (colourAt n 1) w5 w7
-  from5 = later (wider (beside-over _ w5 (prunedAt n 1) (16 * n)) (omega arith) (omega arith)) (wider from6 (omega arith) (omega arith))
+  from5 = later (wider (beside-over _ w5 (prunedAt n 1) (objectCount n)) (omega arith) (omega arith)) (wider from6 (omega arith) (omega arith))
 
   from4 : Beside (knownAt n 1) (colourAt n 1) w4 w7
-  from4 = later (wider (beside-over _ w4 (knownAt n 1) (16 * n)) (omega arith) (omega arith)) (wider from5 (omega arith) (omega arith))
+  from4 = later (wider (beside-over _ w4 (knownAt n 1) (objectCount n)) (omega arith) (omega arith)) (wider from5 (omega arith) (omega arith))
 
   from3 : Beside (unflushedAt n 0) (colourAt n 1) w3 w7
   from3 = later (wider (beside-over _ w3 (unflushedAt n 0) n) (omega arith) (omega arith)) (wider from4 (omega arith) (omega arith))
@@ -94,7 +95,7 @@ module _ (w : List ℕ) (n t : ℕ) where
   runs6 : passRuns w6 ≡ passRuns w
   runs6 = ap (λ (k : ℕ). not (eqb k 0)) (six .below phaseAt (omega arith))
 
-  module _ (len : length w ≡ 6 + 67 * n) where
+  module _ (len : length w ≡ tableWords n) where
     inactive : at w7 activeAt ≡ withoutBit (at w activeAt) t
     inactive = from1 .below activeAt (omega arith) ∙ getD-set-same w activeAt (withoutBit (at w activeAt) t) 0 (omega arith)
 
@@ -112,7 +113,7 @@ module _ (w : List ℕ) (n t : ℕ) where
     created-words x l = over-object (endedEntry (passRuns w6) t) n six (omega arith) (beside-self (colourAt n 1) 0 w7) (omega arith) (omega arith) x l
         ∙ ap (λ (b : Bool). endedEntry b t (at w (createdAt n x))) runs6
 
-    pub ended-tables : t < 16 → tablesOf (endedTables w n t) n ≡ without (tablesOf w n) (passOf w n .phase) t
+    pub ended-tables : t < txnCount → tablesOf (endedTables w n t) n ≡ without (tablesOf w n) (passOf w n .phase) t
     unfolding endedTables
     ended-tables small = tables-ext _ _
         (object-drop w n _ t w7 (λ m. withoutBit m t) (λ m u l. bit-without m t u) (over-object (λ m. withoutBit m t) n four (omega arith) from5 (omega arith) (omega arith)))

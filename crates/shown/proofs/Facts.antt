@@ -28,6 +28,7 @@ use Rattle.shown.specs.Tables.{pageBit, objectBit}
 use Rattle.shown.proofs.Frames.{page-bit}
 use Rattle.views.proofs.Effects.{view-occ}
 use Rattle.shown.proofs.Shows.{Shows}
+use Rattle.records.specs.Records.{txnCount}
 
 -- 'nobody but t' is in a mask
 pub sole : (m t u : ℕ) → withoutBit m t ≡ 0 → bit m u ≡ true → u ≡ t
@@ -40,13 +41,13 @@ unfolding pageBit
 page-has w n place t p h = and-r _ _ (and-r _ _ h)
 
 -- what t knows
-pub known-bit : (w : List ℕ) (n t x : ℕ) → t < 16 → objectBit w n (knownAt n) t x ≡ knows w n t x
+pub known-bit : (w : List ℕ) (n t x : ℕ) → t < txnCount → objectBit w n (knownAt n) t x ≡ knows w n t x
 unfolding objectBit
-known-bit w n t x h = rw (lt-ltb t 16 h, true-and) (by-bool (isObject n x) (λ e. rw e (true-and (has w (knownAt n x) t))) (λ e. rw e (false-and (has w (knownAt n x) t))))
+known-bit w n t x h = rw (lt-ltb t txnCount h, true-and) (by-bool (isObject n x) (λ e. rw e (true-and (has w (knownAt n x) t))) (λ e. rw e (false-and (has w (knownAt n x) t))))
 
 module _ (a : Areas) (n : ℕ) (s : St) (e : Shows (a .work) n s) where
-  pub act-is : (t : ℕ) → t < 16 → s .locks .act t ≡ has (a .work) activeAt t
-  act-is t h = ap (λ (l : Locks). l .act t) (e .locks) ∙ rw (lt-ltb t 16 h) (true-and (has (a .work) activeAt t))
+  pub act-is : (t : ℕ) → t < txnCount → s .locks .act t ≡ has (a .work) activeAt t
+  act-is t h = ap (λ (l : Locks). l .act t) (e .locks) ∙ rw (lt-ltb t txnCount h) (true-and (has (a .work) activeAt t))
 
   pub wr-is : (t p : ℕ) → s .locks .wr t p ≡ pageBit (a .work) n (writersAt n) t p
   wr-is t p = ap (λ (l : Locks). l .wr t p) (e .locks)
@@ -54,10 +55,10 @@ module _ (a : Areas) (n : ℕ) (s : St) (e : Shows (a .work) n s) where
   pub rd-is : (t p : ℕ) → s .locks .rd t p ≡ pageBit (a .work) n (readersAt n) t p
   rd-is t p = ap (λ (l : Locks). l .rd t p) (e .locks)
 
-  pub kn-is : (t x : ℕ) → t < 16 → s .tables .kn t x ≡ knows (a .work) n t x
+  pub kn-is : (t x : ℕ) → t < txnCount → s .tables .kn t x ≡ knows (a .work) n t x
   kn-is t x h = ap (λ (b : Tables). b .kn t x) (e .tables) ∙ known-bit (a .work) n t x h
 
-  pub own-is : (t o : ℕ) → t < 16 → ObjectFacts n o → canWrite (a .work) n t (pageOf o) ≡ true → owns s t o ≡ true
+  pub own-is : (t o : ℕ) → t < txnCount → ObjectFacts n o → canWrite (a .work) n t (pageOf o) ≡ true → owns s t o ≡ true
   unfolding Objects.pageOf
   own-is t o h f w = wr-is t (pageOf o) ∙ page-bit (a .work) n (writersAt n) t (pageOf o) h (f .page) ∙ w
 

@@ -5,7 +5,7 @@ use mathlib.Core.Path.{_≡_}
 use mathlib.Core.List.{List}
 use mathlib.Core.Logic.{inl, inr}
 use lib.ListN.{length}
-use Rattle.areas.specs.Layout.{unflushedAt, knownAt}
+use Rattle.areas.specs.Layout.{unflushedAt, knownAt, tableWords}
 use Rattle.areas.specs.Tables.{lose}
 use Rattle.collector.specs.State.{remove}
 use Rattle.shown.specs.Tables.{locksOf, tablesOf, passOf}
@@ -22,7 +22,7 @@ module _ (w : List ℕ) (n t p : ℕ) (h : p < n) where
   pub flush-pass : passOf (lose w (unflushedAt n p) t) n ≡ passOf w n
   flush-pass = pass-kept flush-beside n (inr (omega arith)) (inl (omega arith))
 
-  pub flush-tables : length w ≡ 6 + 67 * n → tablesOf (lose w (unflushedAt n p) t) n ≡ record {
+  pub flush-tables : length w ≡ tableWords n → tablesOf (lose w (unflushedAt n p) t) n ≡ record {
     kn = tablesOf w n .kn;
     prt = tablesOf w n .prt;
     cot = tablesOf w n .cot;

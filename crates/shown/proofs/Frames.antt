@@ -13,13 +13,14 @@ use borrow.Author.Tests.{ltb-true, lt-ltb, le-leb}
 use Rattle.words.specs.Tests.{by-bool}
 use Rattle.words.specs.Bits.{bit, withBit, withoutBit}
 use Rattle.words.specs.Spans.{over, fill, length-over, length-fill, over-outside, fill-outside}
-use Rattle.pages.specs.Geometry.{isObject}
+use Rattle.pages.specs.Geometry.{isObject, objectCount}
 use Rattle.areas.specs.Layout.{reopeningAt, reopeningPageAt, phaseAt, passPageAt, stepsAt, activeAt, readersAt, writersAt, unflushedAt, colourAt, tableWords}
 use Rattle.areas.specs.Tables.{at, has, gain, lose, flag}
 use Rattle.collector.specs.Bits.{_and_, true-and}
 use Rattle.collector.specs.State.{Locks, Tables, Pass}
 use Rattle.page_laws.specs.Places.{object-range}
 use Rattle.shown.specs.Tables.{pageBit, objectBit, flagBit, colourAtObject, phaseOf, locksOf, tablesOf, passOf}
+use Rattle.records.specs.Records.{txnCount}
 
 -- the machine's parts from their fields
 pub locks-ext : (l m : Locks) → ((t : ℕ) → l .act t ≡ m .act t) → l .rd ≡ m .rd → l .wr ≡ m .wr → l ≡ m
@@ -99,23 +100,23 @@ unfolding _and_
 under true h = h refl
 under false h = refl
 
-pub is-object : (n x : ℕ) → 1 ≤ x → x ≤ 16 * n → isObject n x ≡ true
-is-object n x low top = rw (le-leb 1 x low) (le-leb x (16 * n) top)
+pub is-object : (n x : ℕ) → 1 ≤ x → x ≤ objectCount n → isObject n x ≡ true
+is-object n x low top = rw (le-leb 1 x low) (le-leb x (objectCount n) top)
 
 -- a bit in range is its word's
-pub page-bit : (w : List ℕ) (n : ℕ) (place : ℕ → ℕ) (t p : ℕ) → t < 16 → p < n → pageBit w n place t p ≡ has w (place p) t
+pub page-bit : (w : List ℕ) (n : ℕ) (place : ℕ → ℕ) (t p : ℕ) → t < txnCount → p < n → pageBit w n place t p ≡ has w (place p) t
 unfolding pageBit
-page-bit w n place t p s h = rw (lt-ltb t 16 s, lt-ltb p n h, true-and) (true-and (has w (place p) t))
+page-bit w n place t p s h = rw (lt-ltb t txnCount s, lt-ltb p n h, true-and) (true-and (has w (place p) t))
 
 -- each table's reading from its words
 module _ (w v : List ℕ) (n c : ℕ) where
   pub page-same : ((p : ℕ) → p < n → at v (c + p) ≡ at w (c + p)) → pageBit v n (byPage c) ≡ pageBit w n (byPage c)
   unfolding pageBit
-  page-same h = λ i t p. ltb t 16 and under (ltb p n) (λ l. ap (λ (m : ℕ). bit m t) (h p (ltb-true p n l))) i
+  page-same h = λ i t p. ltb t txnCount and under (ltb p n) (λ l. ap (λ (m : ℕ). bit m t) (h p (ltb-true p n l))) i
 
   pub object-same : ((x : ℕ) → isObject n x ≡ true → at v (byObject c x) ≡ at w (byObject c x)) → objectBit v n (byObject c) ≡ objectBit w n (byObject c)
   unfolding objectBit
-  object-same h = λ i t x. ltb t 16 and under (isObject n x) (λ l. ap (λ (m : ℕ). bit m t) (h x l)) i
+  object-same h = λ i t x. ltb t txnCount and under (isObject n x) (λ l. ap (λ (m : ℕ). bit m t) (h x l)) i
 
   pub flag-same : ((x : ℕ) → isObject n x ≡ true → at v (byObject c x) ≡ at w (byObject c x)) → flagBit v n (byObject c) ≡ flagBit w n (byObject c)
   unfolding flagBit
@@ -129,22 +130,22 @@ module _ {a b : ℕ} {w v : List ℕ} (e : Beside a b w v) (n c : ℕ) where
   pub page-kept : Apart a b c (c + n) → pageBit v n (byPage c) ≡ pageBit w n (byPage c)
   page-kept h = page-same w v n c (λ p l. kept e h (c + p) (omega arith) (omega arith))
 
-  pub object-at : Apart a b c (c + 16 * n) → (x : ℕ) → isObject n x ≡ true → at v (byObject c x) ≡ at w (byObject c x)
+  pub object-at : Apart a b c (c + objectCount n) → (x : ℕ) → isObject n x ≡ true → at v (byObject c x) ≡ at w (byObject c x)
   object-at h x l = let k = object-range n x l .0 in let m = object-range n x l .1 in kept e h (c + (x - 1)) (omega arith) (omega arith)
 
-  pub object-kept : Apart a b c (c + 16 * n) → objectBit v n (byObject c) ≡ objectBit w n (byObject c)
+  pub object-kept : Apart a b c (c + objectCount n) → objectBit v n (byObject c) ≡ objectBit w n (byObject c)
   object-kept h = object-same w v n c (object-at h)
 
-  pub flag-kept : Apart a b c (c + 16 * n) → flagBit v n (byObject c) ≡ flagBit w n (byObject c)
+  pub flag-kept : Apart a b c (c + objectCount n) → flagBit v n (byObject c) ≡ flagBit w n (byObject c)
   flag-kept h = flag-same w v n c (object-at h)
 
 -- the machine's parts
 module _ {a b : ℕ} {w v : List ℕ} (e : Beside a b w v) (n : ℕ) where
-  pub active-kept : Apart a b activeAt (suc activeAt) → (t : ℕ) → (ltb t 16 and has v activeAt t) ≡ (ltb t 16 and has w activeAt t)
-  active-kept h t = ap (λ (m : ℕ). ltb t 16 and bit m t) (kept e h activeAt (omega arith) (omega arith))
+  pub active-kept : Apart a b activeAt (suc activeAt) → (t : ℕ) → (ltb t txnCount and has v activeAt t) ≡ (ltb t txnCount and has w activeAt t)
+  active-kept h t = ap (λ (m : ℕ). ltb t txnCount and bit m t) (kept e h activeAt (omega arith) (omega arith))
 
   pub locks-kept : Apart a b activeAt (unflushedAt n 0) → locksOf v n ≡ locksOf w n
-  locks-kept h = locks-ext _ _ (λ t. ap (λ (m : ℕ). ltb t 16 and bit m t) (kept e h activeAt (omega arith) (omega arith)))
+  locks-kept h = locks-ext _ _ (λ t. ap (λ (m : ℕ). ltb t txnCount and bit m t) (kept e h activeAt (omega arith) (omega arith)))
       (page-same w v n _ (λ p l. kept e h (readersAt n p) (omega arith) (omega arith)))
       (page-same w v n _ (λ p l. kept e h (writersAt n p) (omega arith) (omega arith)))
 
@@ -155,7 +156,7 @@ module _ {a b : ℕ} {w v : List ℕ} (e : Beside a b w v) (n : ℕ) where
       (flag-same w v n _ (word _ (omega arith) (omega arith)))
       (page-same w v n _ (λ p l. kept e h (unflushedAt n p) (omega arith) (omega arith)))
     where
-      word : (c : ℕ) → unflushedAt n 0 ≤ c → c + 16 * n ≤ colourAt n 1 → (x : ℕ) → isObject n x ≡ true → at v (byObject c x) ≡ at w (byObject c x)
+      word : (c : ℕ) → unflushedAt n 0 ≤ c → c + objectCount n ≤ colourAt n 1 → (x : ℕ) → isObject n x ≡ true → at v (byObject c x) ≡ at w (byObject c x)
       word c l u x k = let low = object-range n x k .0 in let top = object-range n x k .1 in kept e h (byObject c x) (omega arith) (omega arith)
 
   pub colours-kept : Apart a b (colourAt n 1) (tableWords n) → colourAtObject v n ≡ colourAtObject w n

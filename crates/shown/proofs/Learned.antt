@@ -9,10 +9,10 @@ use lib.ListN.{length}
 use lib.Dec.{eqb, ltb}
 use borrow.Author.Tests.{eqb-true, eqb-false, ne-eqb, ltb-true, lt-ltb, not-true}
 use Rattle.words.specs.Tests.{by-bool, clash, and-split, eqb-swap}
-use Rattle.pages.specs.Geometry.{isRef, isRefAt}
+use Rattle.pages.specs.Geometry.{isRef, isRefAt, objectCount}
 use Rattle.pages.specs.Objects.{wordOf}
 use Rattle.pages.specs.Soundness.{areaSound}
-use Rattle.areas.specs.Layout.{knownAt, prunedAt}
+use Rattle.areas.specs.Layout.{knownAt, prunedAt, tableWords}
 use Rattle.calls.specs.Objects.{learned}
 use Rattle.collector.specs.Bits.{_and_, _or_, anyb, anyb-elim, and-l, and-r, true-and, false-and, and-false, or-true, or-false}
 use Rattle.collector.specs.Objects as Objects
@@ -26,6 +26,7 @@ use Rattle.shown.proofs.Masks.{object-gain}
 use Rattle.page_laws.specs.SoundFacts.{free-zero}
 use Rattle.views.proofs.Effects.{view-occ, view-word}
 use Rattle.shown.proofs.Areas.{reference}
+use Rattle.records.specs.Records.{txnCount}
 
 -- one more word: old, what was known before; txn, it is t; some, the object is not nothing; before, a word before names it; next, this
 -- word does; same, it is this word's value
@@ -50,9 +51,9 @@ unfolding _and_
 there true some names h = refl
 there false some names h = h refl
 
-module _ (a w : List ℕ) (n t o : ℕ) (sound : areaSound a n ≡ true) (low : 1 ≤ o) (top : o ≤ 16 * n) where
+module _ (a w : List ℕ) (n t o : ℕ) (sound : areaSound a n ≡ true) (low : 1 ≤ o) (top : o ≤ objectCount n) where
   -- word f is a reference other than 0: to an object of the store
-  target : (f : ℕ) → (isRef a o f && not (eqb (wordOf a o f) 0)) ≡ true → (f < 4) × (1 ≤ wordOf a o f) × (wordOf a o f ≤ 16 * n)
+  target : (f : ℕ) → (isRef a o f && not (eqb (wordOf a o f) 0)) ≡ true → (f < 4) × (1 ≤ wordOf a o f) × (wordOf a o f ≤ objectCount n)
   unfolding isRefAt
   target f e =
       let p = and-split (ltb f 4) (not (eqb (wordOf a o f) 0)) e in
@@ -89,7 +90,7 @@ module _ (a w : List ℕ) (n t o : ℕ) (sound : areaSound a n ≡ true) (low : 
   unfolding points Objects.fields
   named-points y = there (view a o .occ) _ _ (named-free y)
 
-  module _ (len : length w ≡ 6 + 67 * n) (small : t < 16) where
+  module _ (len : length w ≡ tableWords n) (small : t < txnCount) where
     -- a reference's word, and no other, names its object
     names : (f y : ℕ) → (isRef a o f && not (eqb (wordOf a o f) 0)) ≡ true → (Objects.isRef (view a o) f and eqb (view a o .word f) y) ≡ eqb y (wordOf a o f)
     unfolding Objects.isRef

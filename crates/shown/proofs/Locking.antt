@@ -10,7 +10,7 @@ use lib.Dec.{eqb}
 use borrow.Author.Tests.{eqb-true}
 use Rattle.words.specs.Tests.{by-bool}
 use Rattle.words.specs.Bits.{withoutBit}
-use Rattle.areas.specs.Layout.{readersAt, writersAt, unflushedAt}
+use Rattle.areas.specs.Layout.{readersAt, writersAt, unflushedAt, tableWords}
 use Rattle.areas.specs.Tables.{at, lose, canWrite}
 use Rattle.calls.specs.Locks.{readLocked, writeLocked}
 use Rattle.collector.specs.Bits.{_and_, _or_, or-false}
@@ -18,6 +18,7 @@ use Rattle.collector.specs.State.{add, remove}
 use Rattle.shown.specs.Tables.{pageBit, locksOf, tablesOf, passOf}
 use Rattle.shown.proofs.Frames.{Beside, beside-self, beside-gain, beside-lose, wider, later, locks-ext, page-bit, page-kept, active-kept, tables-kept, pass-kept}
 use Rattle.shown.proofs.Masks.{page-gain, page-lose}
+use Rattle.records.specs.Records.{txnCount}
 
 -- the page is the one asked for, and t writes it or not
 held : (reads txn page writes : Bool) → (txn ≡ true → page ≡ true → writes ≡ true) → reads ≡ (reads or (txn and page and not writes))
@@ -55,7 +56,7 @@ module _ (w : List ℕ) (n t p : ℕ) (h : p < n) where
   pub lock-read-pass : passOf (readLocked w n t p) n ≡ passOf w n
   lock-read-pass = pass-kept lock-read-beside n (inr (omega arith)) (inl (omega arith))
 
-  module _ (len : length w ≡ 6 + 67 * n) (small : t < 16) where
+  module _ (len : length w ≡ tableWords n) (small : t < txnCount) where
     pub lock-write-locks : locksOf (writeLocked w n t p) n ≡ record { act = locksOf w n .act; rd = remove (locksOf w n .rd) t p; wr = add (locksOf w n .wr) t p }
     unfolding writeLocked
     lock-write-locks = locks-ext _ _ (active-kept lock-write-beside n (inr (omega arith)))

@@ -13,7 +13,7 @@ use Rattle.words.specs.Tests as Tests
 use Rattle.words.specs.Tests.{by-bool}
 use Rattle.words.specs.Bits.{bit, withBit, withoutBit, with-other, bit-with, bit-without}
 use Rattle.words.specs.Spans.{over, over-inside}
-use Rattle.pages.specs.Geometry.{isObject}
+use Rattle.pages.specs.Geometry.{isObject, objectCount}
 use Rattle.areas.specs.Tables.{at, has, gain, lose, flag}
 use Rattle.calls.specs.Transactions.{endedEntry}
 use Rattle.collector.specs.Bits.{_and_, _or_, or-true, or-false, and-true, and-false}
@@ -21,6 +21,7 @@ use Rattle.collector.specs.State.{add, remove, drop}
 use Rattle.page_laws.specs.Places.{object-range}
 use Rattle.shown.specs.Tables.{pageBit, objectBit, flagBit}
 use Rattle.shown.proofs.Frames.{Beside, under, byPage, byObject, is-object}
+use Rattle.records.specs.Records.{txnCount}
 
 -- The three changes of one bit, in words of tests: small, the transaction is one; here, the number has a word; txn and same, it is the
 -- transaction and the number of the change; old and new, the bit before and after.
@@ -51,7 +52,7 @@ drops false here old false new h = refl
 -- a table whose numbers with a word pass a test, each with a word of its own
 module _ (inside : ℕ → Bool) (place : ℕ → ℕ) where
   abbrev bits : List ℕ → ℕ → ℕ → Bool
-  bits w t x = ltb t 16 and (inside x and has w (place x) t)
+  bits w t x = ltb t txnCount and (inside x and has w (place x) t)
 
   module _ (w : List ℕ) (t x : ℕ) (long : place x < length w) where
     here : (m u y : ℕ) → eqb y x ≡ true → has (set w (place x) m) (place y) u ≡ bit m u
@@ -64,23 +65,23 @@ module _ (inside : ℕ → Bool) (place : ℕ → ℕ) where
       there : (m u y : ℕ) → eqb y x ≡ false → inside y ≡ true → has (set w (place x) m) (place y) u ≡ has w (place y) u
       there m u y e l = ap (λ (k : ℕ). bit k u) (getD-set-other w (place x) (place y) m 0 (λ z. eqb-false y x e (apart y l z)))
 
-      bits-gain : t < 16 → inside x ≡ true → bits (gain w (place x) t) ≡ add (bits w) t x
-      bits-gain h l = fun-ext (λ u. fun-ext (λ y. joins (ltb u 16) (inside y) (has w (place y) u) (eqb u t) (eqb y x) (has (gain w (place x) t) (place y) u)
-          (λ e. lt-ltb u 16 (rw (eqb-true u t e) h))
+      bits-gain : t < txnCount → inside x ≡ true → bits (gain w (place x) t) ≡ add (bits w) t x
+      bits-gain h l = fun-ext (λ u. fun-ext (λ y. joins (ltb u txnCount) (inside y) (has w (place y) u) (eqb u t) (eqb y x) (has (gain w (place x) t) (place y) u)
+          (λ e. lt-ltb u txnCount (rw (eqb-true u t e) h))
           (λ e. rw (eqb-true y x e) l)
           (λ e. here _ u y e ∙ bit-with (at w (place x)) t u ∙ ap (λ (b : Bool). b || eqb u t) (old-here u y e))
           (there _ u y)))
 
       bits-lose : bits (lose w (place x) t) ≡ remove (bits w) t x
-      bits-lose = fun-ext (λ u. fun-ext (λ y. parts (ltb u 16) (inside y) (has w (place y) u) (eqb u t) (eqb y x) (has (lose w (place x) t) (place y) u)
+      bits-lose = fun-ext (λ u. fun-ext (λ y. parts (ltb u txnCount) (inside y) (has w (place y) u) (eqb u t) (eqb y x) (has (lose w (place x) t) (place y) u)
           (λ e. here _ u y e ∙ bit-without (at w (place x)) t u ∙ ap (λ (b : Bool). b && not (eqb u t)) (old-here u y e))
           (there _ u y)))
 
   -- each word changed so that t's bit goes and the bits of the other transactions stay
-  bits-drop : (w v : List ℕ) (t : ℕ) (f : ℕ → ℕ) → ((m u : ℕ) → u < 16 → bit (f m) u ≡ (bit m u && not (eqb u t)))
+  bits-drop : (w v : List ℕ) (t : ℕ) (f : ℕ → ℕ) → ((m u : ℕ) → u < txnCount → bit (f m) u ≡ (bit m u && not (eqb u t)))
       → ((x : ℕ) → inside x ≡ true → at v (place x) ≡ f (at w (place x))) → bits v ≡ drop (bits w) t
-  bits-drop w v t f h e = fun-ext (λ u. fun-ext (λ x. drops (ltb u 16) (inside x) (has w (place x) u) (eqb u t) (has v (place x) u)
-      (λ s l. ap (λ (m : ℕ). bit m u) (e x l) ∙ h (at w (place x)) u (ltb-true u 16 s))))
+  bits-drop w v t f h e = fun-ext (λ u. fun-ext (λ x. drops (ltb u txnCount) (inside x) (has w (place x) u) (eqb u t) (has v (place x) u)
+      (λ s l. ap (λ (m : ℕ). bit m u) (e x l) ∙ h (at w (place x)) u (ltb-true u txnCount s))))
 
 page-apart : (n c p q : ℕ) → ltb q n ≡ true → c + q ≡ c + p → q ≡ p
 page-apart n c p q l e = omega arith
@@ -90,7 +91,7 @@ object-apart n c x y h l e = let k = object-range n y l .0 in omega arith
 
 module _ (w : List ℕ) (n c t : ℕ) where
   module _ (p : ℕ) (h : p < n) (long : c + n ≤ length w) where
-    pub page-gain : t < 16 → pageBit (gain w (c + p) t) n (byPage c) ≡ add (pageBit w n (byPage c)) t p
+    pub page-gain : t < txnCount → pageBit (gain w (c + p) t) n (byPage c) ≡ add (pageBit w n (byPage c)) t p
     unfolding pageBit
     page-gain s = bits-gain (λ q. ltb q n) (byPage c) w t p (omega arith) (page-apart n c p) s (lt-ltb p n h)
 
@@ -98,8 +99,8 @@ module _ (w : List ℕ) (n c t : ℕ) where
     unfolding pageBit
     page-lose = bits-lose (λ q. ltb q n) (byPage c) w t p (omega arith) (page-apart n c p)
 
-  module _ (x : ℕ) (low : 1 ≤ x) (top : x ≤ 16 * n) (long : c + 16 * n ≤ length w) where
-    pub object-gain : t < 16 → objectBit (gain w (byObject c x) t) n (byObject c) ≡ add (objectBit w n (byObject c)) t x
+  module _ (x : ℕ) (low : 1 ≤ x) (top : x ≤ objectCount n) (long : c + objectCount n ≤ length w) where
+    pub object-gain : t < txnCount → objectBit (gain w (byObject c x) t) n (byObject c) ≡ add (objectBit w n (byObject c)) t x
     unfolding objectBit
     object-gain s = bits-gain (isObject n) (byObject c) w t x (omega arith) (λ y. object-apart n c x y low) s (is-object n x low top)
 
@@ -107,7 +108,7 @@ module _ (w : List ℕ) (n c t : ℕ) where
   unfolding pageBit
   page-drop v e = bits-drop (λ q. ltb q n) (byPage c) w v t (λ m. withoutBit m t) (λ m u s. bit-without m t u) (λ p l. e p (ltb-true p n l))
 
-  pub object-drop : (v : List ℕ) (f : ℕ → ℕ) → ((m u : ℕ) → u < 16 → bit (f m) u ≡ (bit m u && not (eqb u t)))
+  pub object-drop : (v : List ℕ) (f : ℕ → ℕ) → ((m u : ℕ) → u < txnCount → bit (f m) u ≡ (bit m u && not (eqb u t)))
       → ((x : ℕ) → isObject n x ≡ true → at v (byObject c x) ≡ f (at w (byObject c x))) → objectBit v n (byObject c) ≡ drop (objectBit w n (byObject c)) t
   unfolding objectBit
   object-drop v f h e = bits-drop (isObject n) (byObject c) w v t f h e
@@ -119,22 +120,22 @@ module _ {a b d e c : ℕ} {w u v : List ℕ} (f : ℕ → ℕ) (n : ℕ) (befor
   over-page after l long p k = let z : c + 0 ≡ c = omega arith in after .below (c + p) (omega arith)
       ∙ rw z (over-inside f u c n p (let q = before .same-length in omega arith) k) ∙ ap f (before .above (c + p) (omega arith))
 
-  pub over-object : Beside d e (over f u (byObject c 1) (16 * n)) v → c + 16 * n ≤ d → c + 16 * n ≤ length w
+  pub over-object : Beside d e (over f u (byObject c 1) (objectCount n)) v → c + objectCount n ≤ d → c + objectCount n ≤ length w
       → (x : ℕ) → isObject n x ≡ true → at v (byObject c x) ≡ f (at w (byObject c x))
   over-object after l long x k = let low = object-range n x k .0 in let top = object-range n x k .1 in let z : c + 0 ≡ c = omega arith in
       after .below (byObject c x) (omega arith)
-      ∙ rw z (over-inside f u c (16 * n) (x - 1) (let q = before .same-length in omega arith) (omega arith))
+      ∙ rw z (over-inside f u c (objectCount n) (x - 1) (let q = before .same-length in omega arith) (omega arith))
       ∙ ap f (before .above (byObject c x) (omega arith))
 
 -- 'Entries of an ended transaction go .. if no pass runs; otherwise they are flagged'
-pub ended-bit : (runs : Bool) (t m u : ℕ) → u < 16 → bit (endedEntry runs t m) u ≡ (bit m u && not (eqb u t))
+pub ended-bit : (runs : Bool) (t m u : ℕ) → u < txnCount → bit (endedEntry runs t m) u ≡ (bit m u && not (eqb u t))
 ended-bit runs t m u l = by-bool (bit m t)
     (λ e. rw e (by-bool runs
     (λ r. rw r (bit-with (withoutBit m t) flag u ∙ rw (ne-eqb u flag (λ z. omega arith), bit-without m t u) (Tests.or-false (bit m u && not (eqb u t)))))
     (λ r. rw r (bit-without m t u))))
     (λ e. rw e (by-bool (eqb u t) (λ q. rw (q, eqb-true u t q, e)) (λ q. rw q (sym (Tests.and-true (bit m u))))))
 
-pub ended-flag : (runs : Bool) (t m : ℕ) → t < 16 → bit (endedEntry runs t m) flag ≡ (bit m flag || (runs && bit m t))
+pub ended-flag : (runs : Bool) (t m : ℕ) → t < txnCount → bit (endedEntry runs t m) flag ≡ (bit m flag || (runs && bit m t))
 ended-flag runs t m l = by-bool (bit m t)
     (λ e. rw e (by-bool runs
     (λ r. rw r (bit-with (withoutBit m t) flag flag ∙ rw (eq-eqb flag flag refl, Tests.or-true (bit (withoutBit m t) flag)) (sym (Tests.or-true (bit m flag)))))
@@ -149,26 +150,26 @@ flags true false false bits = refl
 flags false old true bits = refl
 flags false old false bits = refl
 
-pub flag-ended : (w v : List ℕ) (n c t : ℕ) (runs : Bool) → t < 16
+pub flag-ended : (w v : List ℕ) (n c t : ℕ) (runs : Bool) → t < txnCount
     → ((x : ℕ) → isObject n x ≡ true → at v (byObject c x) ≡ endedEntry runs t (at w (byObject c x)))
     → flagBit v n (byObject c) ≡ (λ x. flagBit w n (byObject c) x or (runs and objectBit w n (byObject c) t x))
 unfolding flagBit objectBit
 flag-ended w v n c t runs h e = fun-ext (λ x. under (isObject n x) (λ l. ap (λ (m : ℕ). bit m flag) (e x l) ∙ ended-flag runs t (at w (byObject c x)) h)
-    ∙ rw (lt-ltb t 16 h) (flags (isObject n x) (has w (byObject c x) flag) runs (has w (byObject c x) t)))
+    ∙ rw (lt-ltb t txnCount h) (flags (isObject n x) (has w (byObject c x) flag) runs (has w (byObject c x) t)))
 
 -- the word of active transactions: t enters it, t leaves it
-pub active-gain : (w : List ℕ) (i t : ℕ) → i < length w → t < 16 → (u : ℕ) → (ltb u 16 and has (gain w i t) i u) ≡ ((ltb u 16 and has w i u) or eqb u t)
+pub active-gain : (w : List ℕ) (i t : ℕ) → i < length w → t < txnCount → (u : ℕ) → (ltb u txnCount and has (gain w i t) i u) ≡ ((ltb u txnCount and has w i u) or eqb u t)
 unfolding _and_
-active-gain w i t long h u = joins (ltb u 16) true (has w i u) (eqb u t) true (has (gain w i t) i u)
-    (λ e. lt-ltb u 16 (rw (eqb-true u t e) h))
+active-gain w i t long h u = joins (ltb u txnCount) true (has w i u) (eqb u t) true (has (gain w i t) i u)
+    (λ e. lt-ltb u txnCount (rw (eqb-true u t e) h))
     (λ e. refl)
     (λ e. ap (λ (m : ℕ). bit m u) (getD-set-same w i _ 0 long) ∙ bit-with (at w i) t u)
     (λ e. Tests.clash refl e)
-    ∙ ap (λ (b : Bool). (ltb u 16 and has w i u) or b) (and-true (eqb u t))
+    ∙ ap (λ (b : Bool). (ltb u txnCount and has w i u) or b) (and-true (eqb u t))
 
-pub active-drop : (w v : List ℕ) (i t : ℕ) → at v i ≡ withoutBit (at w i) t → (u : ℕ) → (ltb u 16 and has v i u) ≡ (not (eqb u t) and (ltb u 16 and has w i u))
+pub active-drop : (w v : List ℕ) (i t : ℕ) → at v i ≡ withoutBit (at w i) t → (u : ℕ) → (ltb u txnCount and has v i u) ≡ (not (eqb u t) and (ltb u txnCount and has w i u))
 unfolding _and_
-active-drop w v i t e u = drops (ltb u 16) true (has w i u) (eqb u t) (has v i u) (λ s l. ap (λ (m : ℕ). bit m u) e ∙ bit-without (at w i) t u)
+active-drop w v i t e u = drops (ltb u txnCount) true (has w i u) (eqb u t) (has v i u) (λ s l. ap (λ (m : ℕ). bit m u) e ∙ bit-without (at w i) t u)
 
 -- a transaction's bit that a table gains leaves the flags
 pub gain-other : (w : List ℕ) (i j t u : ℕ) → i < length w → (u ≡ t → ⊥) → has (gain w i t) j u ≡ has w j u
@@ -176,6 +177,6 @@ gain-other w i j t u long other = by-bool (eqb j i)
     (λ e. rw (eqb-true j i e) (ap (λ (m : ℕ). bit m u) (getD-set-same w i (withBit (at w i) t) 0 long) ∙ with-other (at w i) t u other))
     (λ e. ap (λ (m : ℕ). bit m u) (getD-set-other w i j (withBit (at w i) t) 0 (eqb-false j i e)))
 
-pub flag-gain : (w : List ℕ) (n i t : ℕ) (place : ℕ → ℕ) → i < length w → t < 16 → flagBit (gain w i t) n place ≡ flagBit w n place
+pub flag-gain : (w : List ℕ) (n i t : ℕ) (place : ℕ → ℕ) → i < length w → t < txnCount → flagBit (gain w i t) n place ≡ flagBit w n place
 unfolding flagBit
 flag-gain w n i t place long h = fun-ext (λ x. ap (λ (b : Bool). isObject n x and b) (gain-other w i (place x) t flag long (λ z. omega arith)))

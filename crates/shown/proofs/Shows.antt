@@ -6,7 +6,7 @@ use mathlib.Core.Bool.{true}
 use mathlib.Core.List.{List}
 use lib.ListN.{length}
 use Rattle.pages.specs.Soundness.{areaSound}
-use Rattle.areas.specs.Layout.{activeAt, unflushedAt}
+use Rattle.areas.specs.Layout.{activeAt, unflushedAt, tableWords}
 use Rattle.areas.specs.Tables.{gain, lose}
 use Rattle.calls.specs.Transactions.{knowsRoot, endedTables}
 use Rattle.calls.specs.Locks.{readLocked, writeLocked}
@@ -22,6 +22,8 @@ use Rattle.shown.proofs.Learned.{read-locks, read-tables, read-pass}
 use Rattle.shown.proofs.Created.{makes, create-locks, create-tables, create-pass}
 use Rattle.shown.proofs.Written.{writes, set-locks, set-tables, set-pass}
 use Rattle.shown.proofs.Flushed.{flush-locks, flush-tables, flush-pass}
+use Rattle.pages.specs.Geometry.{objectCount, slotWords}
+use Rattle.records.specs.Records.{txnCount}
 
 pub record Shows (w : List ℕ) (n : ℕ) (s : St) : Type 0 where
   pub count : s .count ≡ n
@@ -29,8 +31,8 @@ pub record Shows (w : List ℕ) (n : ℕ) (s : St) : Type 0 where
   pub tables : s .tables ≡ tablesOf w n
   pub pass : s .pass ≡ passOf w n
 
-module _ (w : List ℕ) (n : ℕ) (len : length w ≡ 6 + 67 * n) (s : St) (e : Shows w n s) where
-  pub begin-shows : 1 ≤ n → (t m : ℕ) → t < 16 → Shows (knowsRoot (gain w activeAt t) n t) n (Calls.begun s t m)
+module _ (w : List ℕ) (n : ℕ) (len : length w ≡ tableWords n) (s : St) (e : Shows w n s) where
+  pub begin-shows : 1 ≤ n → (t m : ℕ) → t < txnCount → Shows (knowsRoot (gain w activeAt t) n t) n (Calls.begun s t m)
   begin-shows some t m small = record {
     count = e .count;
     locks = rw (e .locks) (sym (begin-locks w n t some len small));
@@ -38,7 +40,7 @@ module _ (w : List ℕ) (n : ℕ) (len : length w ≡ 6 + 67 * n) (s : St) (e : 
     pass = e .pass ∙ sym (begin-pass w n t some);
   }
 
-  pub commit-shows : (t m : ℕ) → t < 16 → Shows (endedTables w n t) n (Calls.committed s t m)
+  pub commit-shows : (t m : ℕ) → t < txnCount → Shows (endedTables w n t) n (Calls.committed s t m)
   commit-shows t m small = record {
     count = e .count;
     locks = rw (e .locks) (sym (ended-locks w n t len));
@@ -46,10 +48,10 @@ module _ (w : List ℕ) (n : ℕ) (len : length w ≡ 6 + 67 * n) (s : St) (e : 
     pass = e .pass ∙ sym (ended-pass w n t);
   }
 
-  pub abort-shows : (t m : ℕ) → t < 16 → Shows (endedTables w n t) n (Calls.aborted s t m)
+  pub abort-shows : (t m : ℕ) → t < txnCount → Shows (endedTables w n t) n (Calls.aborted s t m)
   abort-shows t m small = let c = commit-shows t m small in record { count = c .count; locks = c .locks; tables = c .tables; pass = c .pass }
 
-  pub lock-read-shows : (t p : ℕ) → t < 16 → p < n → Shows (readLocked w n t p) n (Calls.readLocked s t p)
+  pub lock-read-shows : (t p : ℕ) → t < txnCount → p < n → Shows (readLocked w n t p) n (Calls.readLocked s t p)
   lock-read-shows t p small h = record {
     count = e .count;
     locks = rw (e .locks) (sym (lock-read-locks w n t p h len small));
@@ -57,7 +59,7 @@ module _ (w : List ℕ) (n : ℕ) (len : length w ≡ 6 + 67 * n) (s : St) (e : 
     pass = e .pass ∙ sym (lock-read-pass w n t p h);
   }
 
-  pub lock-write-shows : (t p : ℕ) → t < 16 → p < n → Shows (writeLocked w n t p) n (Calls.writeLocked s t p)
+  pub lock-write-shows : (t p : ℕ) → t < txnCount → p < n → Shows (writeLocked w n t p) n (Calls.writeLocked s t p)
   lock-write-shows t p small h = record {
     count = e .count;
     locks = rw (e .locks) (sym (lock-write-locks w n t p h len small));
@@ -73,7 +75,7 @@ module _ (w : List ℕ) (n : ℕ) (len : length w ≡ 6 + 67 * n) (s : St) (e : 
     pass = e .pass ∙ sym (flush-pass w n t p h);
   }
 
-  module _ (t o : ℕ) (small : t < 16) (low : 1 ≤ o) (top : o ≤ 16 * n) where
+  module _ (t o : ℕ) (small : t < txnCount) (low : 1 ≤ o) (top : o ≤ objectCount n) where
     pub create-shows : (m : ℕ) → Shows (makes w n t o) n (Calls.created s t o m)
     create-shows m = record {
       count = e .count;
@@ -91,7 +93,7 @@ module _ (w : List ℕ) (n : ℕ) (len : length w ≡ 6 + 67 * n) (s : St) (e : 
         pass = e .pass ∙ sym (read-pass a w n t o sound low top);
       }
 
-      pub set-shows : (f v m : ℕ) → f < 8 → Shows (writes a w n t o f v) n (Calls.written s t o f v m)
+      pub set-shows : (f v m : ℕ) → f < slotWords → Shows (writes a w n t o f v) n (Calls.written s t o f v m)
       set-shows f v m h = record {
         count = e .count;
         locks = e .locks ∙ sym (set-locks a w n t o f v sound low top h);

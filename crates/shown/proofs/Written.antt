@@ -9,7 +9,7 @@ use lib.ListN.{length}
 use lib.Dec.{eqb, ltb}
 use borrow.Author.Tests.{eqb-true, eqb-false, eq-eqb, ne-eqb, ltb-true, not-true}
 use Rattle.words.specs.Tests.{if, by-bool, and-split}
-use Rattle.pages.specs.Geometry.{pageOf, isRef, isRefAt}
+use Rattle.pages.specs.Geometry.{pageOf, isRef, isRefAt, objectCount, slotWords}
 use Rattle.pages.specs.Objects.{wordOf}
 use Rattle.pages.specs.Soundness.{areaSound}
 use Rattle.areas.specs.Layout.{phaseAt, passPageAt, stepsAt, unflushedAt, knownAt, prunedAt, createdAt, colourAt, tableWords}
@@ -28,6 +28,7 @@ use Rattle.shown.proofs.Phases.{phase-marking}
 use Rattle.shown.proofs.Colours.{grey-beside, grey-colour}
 use Rattle.views.proofs.Effects.{view-word}
 use Rattle.shown.proofs.Areas.{reference}
+use Rattle.records.specs.Records.{txnCount}
 
 -- the machine's tables with more PRT entries, and with t's records of page p not flushed
 abbrev grown : Tables → (ℕ → ℕ → Bool) → Tables
@@ -40,7 +41,7 @@ grown-none : (b : Tables) (more : ℕ → ℕ → Bool) → ((u y : ℕ) → mor
 grown-none b more h = tables-ext _ _ refl (fun-ext (λ u. fun-ext (λ y. sym (or-false (b .prt u y)) ∙ ap (λ (m : Bool). b .prt u y or m) (sym (h u y))))) refl refl refl
 
 -- 'the PRT gains the old target for t': x is the target
-module _ (w : List ℕ) (n t x : ℕ) (low : 1 ≤ x) (top : x ≤ 16 * n) where
+module _ (w : List ℕ) (n t x : ℕ) (low : 1 ≤ x) (top : x ≤ objectCount n) where
   abbrev entered : List ℕ
   entered = gain w (prunedAt n x) t
 
@@ -54,8 +55,8 @@ module _ (w : List ℕ) (n t x : ℕ) (low : 1 ≤ x) (top : x ≤ 16 * n) where
   prune-beside : Beside (prunedAt n 1) (tableWords n) w (pruned w n t x)
   prune-beside = later (wider enters (omega arith) (omega arith)) (wider greys (omega arith) (omega arith))
 
-  module _ (len : length w ≡ 6 + 67 * n) where
-    prune-tables : t < 16 → tablesOf (pruned w n t x) n ≡ grown (tablesOf w n) (λ u y. eqb u t and eqb y x)
+  module _ (len : length w ≡ tableWords n) where
+    prune-tables : t < txnCount → tablesOf (pruned w n t x) n ≡ grown (tablesOf w n) (λ u y. eqb u t and eqb y x)
     prune-tables small = tables-kept greys n (inr (omega arith)) ∙ tables-ext _ _ (object-kept enters n _ (inr (omega arith)))
         (object-gain w n _ t x low top (omega arith) small)
         (object-kept enters n _ (inl (omega arith)))
@@ -77,7 +78,7 @@ same-and true true c = refl
 same-and true false c = refl
 same-and false b c = refl
 
-pub pruned-is : (a : List ℕ) (o f v y : ℕ) → 1 ≤ o → f < 8 → Calls.pruned (view a o) f v y ≡ (prunes a o f v and eqb y (wordOf a o f))
+pub pruned-is : (a : List ℕ) (o f v y : ℕ) → 1 ≤ o → f < slotWords → Calls.pruned (view a o) f v y ≡ (prunes a o f v and eqb y (wordOf a o f))
 unfolding Objects.isRef isRefAt
 pruned-is a o f v y low h = rw (view-word a o low f h) (by-bool (eqb y (wordOf a o f))
     (λ e. rw (e, eqb-true y (wordOf a o f) e, eq-eqb (wordOf a o f) (wordOf a o f) refl)
@@ -88,7 +89,7 @@ pruned-is a o f v y low h = rw (view-word a o low f h) (by-bool (eqb y (wordOf a
 abbrev pub writes : List ℕ → List ℕ → ℕ → ℕ → ℕ → ℕ → ℕ → List ℕ
 writes received w n t o f v = let u = gain w (unflushedAt n (pageOf o)) t in let x = pruned u n t (wordOf received o f) in if (prunes received o f v) x u
 
-module _ (a w : List ℕ) (n t o f v : ℕ) (sound : areaSound a n ≡ true) (low : 1 ≤ o) (top : o ≤ 16 * n) (h : f < 8) where
+module _ (a w : List ℕ) (n t o f v : ℕ) (sound : areaSound a n ≡ true) (low : 1 ≤ o) (top : o ≤ objectCount n) (h : f < slotWords) where
   abbrev unflushed : List ℕ
   unflushed = gain w (unflushedAt n (pageOf o)) t
 
@@ -98,7 +99,7 @@ module _ (a w : List ℕ) (n t o f v : ℕ) (sound : areaSound a n ≡ true) (lo
   dirties : Beside (unflushedAt n 0) (knownAt n 1) w unflushed
   dirties = wider (beside-gain w (unflushedAt n (pageOf o)) t) (omega arith) (omega arith)
 
-  target-range : prunes a o f v ≡ true → (1 ≤ target) × (target ≤ 16 * n)
+  target-range : prunes a o f v ≡ true → (1 ≤ target) × (target ≤ objectCount n)
   unfolding isRefAt
   target-range e =
       let p = and-split (ltb f 4 && not (eqb target 0)) (not (eqb target v)) e in
@@ -125,7 +126,7 @@ module _ (a w : List ℕ) (n t o f v : ℕ) (sound : areaSound a n ≡ true) (lo
   takes-none : prunes a o f v ≡ false → (y : ℕ) → Calls.pruned (view a o) f v y ≡ false
   takes-none e y = takes y ∙ rw e (false-and (eqb y target))
 
-  module _ (len : length w ≡ 6 + 67 * n) (small : t < 16) where
+  module _ (len : length w ≡ tableWords n) (small : t < txnCount) where
     dirty-tables : tablesOf unflushed n ≡ dirtied (tablesOf w n) t (Objects.pageOf o)
     unfolding Objects.pageOf
     dirty-tables = tables-ext _ _ (object-kept dirties n _ (inl (omega arith)))

@@ -9,13 +9,14 @@ use Rattle.areas.specs.Layout.{phaseAt, passPageAt, stepsAt, activeAt, readersA
 use Rattle.areas.specs.Tables.{at, has, flag}
 use Rattle.collector.specs.Bits.{_and_}
 use Rattle.collector.specs.State.{Colour, white, grey, black, Phase, idle, marking, sweeping, Locks, Tables, Pass}
+use Rattle.records.specs.Records.{txnCount}
 
 -- transaction t's bit in a table by page, and in one by object; place: where a page's or an object's word is
 unfoldable pub pageBit : List ℕ → ℕ → (ℕ → ℕ) → ℕ → ℕ → Bool
-pageBit w n place t p = ltb t 16 and (ltb p n and has w (place p) t)
+pageBit w n place t p = ltb t txnCount and (ltb p n and has w (place p) t)
 
 unfoldable pub objectBit : List ℕ → ℕ → (ℕ → ℕ) → ℕ → ℕ → Bool
-objectBit w n place t x = ltb t 16 and (isObject n x and has w (place x) t)
+objectBit w n place t x = ltb t txnCount and (isObject n x and has w (place x) t)
 
 -- the flag of an object's entry
 unfoldable pub flagBit : List ℕ → ℕ → (ℕ → ℕ) → ℕ → Bool
@@ -36,7 +37,7 @@ colourAtObject w n x = mathlib.Core.Bool.cond (isObject n x) (colourOf (at w (co
 
 abbrev pub locksOf : List ℕ → ℕ → Locks
 locksOf w n = record {
-  act = λ t. ltb t 16 and has w activeAt t;
+  act = λ t. ltb t txnCount and has w activeAt t;
   rd = pageBit w n (readersAt n);
   wr = pageBit w n (writersAt n);
 }

@@ -8,31 +8,32 @@ use lib.ListN.{length, set}
 use lib.Seq.{getD-set-same, getD-set-other}
 use lib.Dec.{ltb}
 use Rattle.words.specs.Bits.{bit}
-use Rattle.pages.specs.Geometry.{isObject}
-use Rattle.areas.specs.Layout.{unflushedAt, knownAt, colourAt}
+use Rattle.pages.specs.Geometry.{isObject, objectCount}
+use Rattle.areas.specs.Layout.{unflushedAt, knownAt, colourAt, tableWords}
 use Rattle.areas.specs.Tables.{at, withPass}
 use Rattle.collector.specs.Bits.{_and_}
 use Rattle.shown.proofs.Frames.{locks-ext, tables-ext, byObject, page-same, object-same, flag-same, colour-same}
 use Rattle.shown.specs.Tables.{pageBit, objectBit, colourAtObject, locksOf, tablesOf}
 use Rattle.page_laws.specs.Places.{object-range}
+use Rattle.records.specs.Records.{txnCount}
 
 -- v has w's words from a up to b
 abbrev pub Fixed : List ℕ → List ℕ → ℕ → ℕ → Type 0
 Fixed v w a b = (i : ℕ) → a ≤ i → i < b → at v i ≡ at w i
 
 module _ (v w : List ℕ) (n : ℕ) where
-  pub colour-kept : Fixed v w (6 + 51 * n) (6 + 67 * n) → colourAtObject v n ≡ colourAtObject w n
+  pub colour-kept : Fixed v w (6 + 51 * n) (tableWords n) → colourAtObject v n ≡ colourAtObject w n
   colour-kept h = colour-same w v n (λ x o. let r = object-range n x o in let l = r .0 in let u = r .1 in h (colourAt n x) (omega arith) (omega arith))
 
   -- the active mask, the locks
   pub locks-kept : Fixed v w 5 (6 + 2 * n) → locksOf v n ≡ locksOf w n
   locks-kept h = locks-ext (locksOf v n) (locksOf w n)
-      (λ t. ap (λ (m : ℕ). ltb t 16 and bit m t) (h 5 (omega arith) (omega arith)))
+      (λ t. ap (λ (m : ℕ). ltb t txnCount and bit m t) (h 5 (omega arith) (omega arith)))
       (page-same w v n 6 (λ p l. h (6 + p) (omega arith) (omega arith)))
       (page-same w v n (6 + n) (λ p l. h (6 + n + p) (omega arith) (omega arith)))
 
   -- a table by object that starts at word c
-  by-object : (c : ℕ) → Fixed v w c (c + 16 * n) → (x : ℕ) → isObject n x ≡ true → at v (byObject c x) ≡ at w (byObject c x)
+  by-object : (c : ℕ) → Fixed v w c (c + objectCount n) → (x : ℕ) → isObject n x ≡ true → at v (byObject c x) ≡ at w (byObject c x)
   by-object c h x o = let r = object-range n x o in let l = r .0 in let u = r .1 in h (c + (x - 1)) (omega arith) (omega arith)
 
   pub known-kept : Fixed v w (6 + 3 * n) (6 + 19 * n) → objectBit v n (knownAt n) ≡ objectBit w n (knownAt n)

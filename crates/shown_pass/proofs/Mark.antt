@@ -9,9 +9,9 @@ use lib.Seq.{getD-set-same, getD-set-other}
 use lib.Dec.{ltb, eqb}
 use borrow.Author.Tests.{ltb-true, eqb-true, eqb-false, eq-eqb, ne-eqb, le-leb, lt-ltb}
 use Rattle.words.specs.Tests.{if, by-bool}
-use Rattle.pages.specs.Geometry.{isObject, isRef, isRefAt}
+use Rattle.pages.specs.Geometry.{isObject, isRef, isRefAt, objectCount, slotWords}
 use Rattle.pages.specs.Objects.{occupied, wordOf}
-use Rattle.areas.specs.Layout.{passPageAt, stepsAt, colourAt}
+use Rattle.areas.specs.Layout.{passPageAt, stepsAt, colourAt, tableWords, stepsTop}
 use Rattle.areas.specs.Tables.{at, isWhite, mayMark, coloured, greyed, withPass, stepsNext}
 use Rattle.calls.specs.Pass.{targetsGreyed, scanned}
 use Rattle.collector.specs.Bits.{_and_, _or_, anyb, false-and, true-and, and-false, and-true}
@@ -45,7 +45,7 @@ marked-grey (suc (suc k)) h = refl
 colour-apart : (n x y : ℕ) → 1 ≤ x → 1 ≤ y → (x ≡ y → ⊥) → colourAt n x ≡ colourAt n y → ⊥
 colour-apart n x y hx hy d e = d (omega arith)
 
-module _ (n : ℕ) (w : List ℕ) (len : length w ≡ 6 + 67 * n) where
+module _ (n : ℕ) (w : List ℕ) (len : length w ≡ tableWords n) where
   -- one object's colour written
   pub coloured-view : (y c x : ℕ) → isObject n y ≡ true → colourAtObject (coloured w n y c) n x ≡ cond (eqb x y) (colourOf c) (colourAtObject w n x)
   unfolding colourAtObject
@@ -86,11 +86,11 @@ module _ (n : ℕ) (w : List ℕ) (len : length w ≡ 6 + 67 * n) where
       (λ e. rw e (getD-set-other w (colourAt n y) i 1 0 (λ z. omega arith))) (λ e. rw e refl)
 
 -- references that name no object are nothing
-target-test : (n x y : ℕ) → y ≤ 16 * n → (isObject n y and eqb x y) ≡ (not (eqb x 0) and eqb y x)
+target-test : (n x y : ℕ) → y ≤ objectCount n → (isObject n y and eqb x y) ≡ (not (eqb x 0) and eqb y x)
 target-test n x y u = by-bool (eqb x y)
     (λ e. let q = eqb-true x y e in rw (e, eq-eqb y x (sym q), and-true (isObject n y), and-true (not (eqb x 0)), q) (by-bool (eqb y 0)
     (λ z. rw (z, eqb-true y 0 z) refl)
-    (λ z. let k = eqb-false y 0 z in rw (z, le-leb 1 y (omega arith), le-leb y (16 * n) u) refl)))
+    (λ z. let k = eqb-false y 0 z in rw (z, le-leb 1 y (omega arith), le-leb y (objectCount n) u) refl)))
     (λ e. rw (e, ne-eqb y x (λ z. eqb-false x y e (sym z)), and-false (isObject n y), and-false (not (eqb x 0))) refl)
 
 -- object o of area a refers to x by one of its first k words
@@ -115,22 +115,22 @@ or-none : (b : Bool) → (false or b) ≡ b
 unfolding _or_
 or-none b = refl
 
-module _ (n : ℕ) (copies : List ℕ) (o : ℕ) (refs : (f : ℕ) → f < 4 → wordOf copies o f ≤ 16 * n) where
-  pub length-targets : (w : List ℕ) → length w ≡ 6 + 67 * n → (k : ℕ) → length (targetsGreyed copies w n o k) ≡ length w
+module _ (n : ℕ) (copies : List ℕ) (o : ℕ) (refs : (f : ℕ) → f < 4 → wordOf copies o f ≤ objectCount n) where
+  pub length-targets : (w : List ℕ) → length w ≡ tableWords n → (k : ℕ) → length (targetsGreyed copies w n o k) ≡ length w
   unfolding targetsGreyed
   length-targets w len zero = refl
   length-targets w len (suc k) = by-bool (isRef copies o k)
       (λ e. rw e (length-greyed n (targetsGreyed copies w n o k) (length-targets w len k ∙ len) (wordOf copies o k) ∙ length-targets w len k))
       (λ e. rw e (length-targets w len k))
 
-  pub targets-low : (w : List ℕ) → length w ≡ 6 + 67 * n → (k i : ℕ) → i < 6 + 51 * n → at (targetsGreyed copies w n o k) i ≡ at w i
+  pub targets-low : (w : List ℕ) → length w ≡ tableWords n → (k i : ℕ) → i < 6 + 51 * n → at (targetsGreyed copies w n o k) i ≡ at w i
   unfolding targetsGreyed
   targets-low w len zero i l = refl
   targets-low w len (suc k) i l = by-bool (isRef copies o k)
       (λ e. rw e (greyed-low n (targetsGreyed copies w n o k) (length-targets w len k ∙ len) (wordOf copies o k) i l ∙ targets-low w len k i l))
       (λ e. rw e (targets-low w len k i l))
 
-  pub targets-view : (w : List ℕ) → length w ≡ 6 + 67 * n → (k x : ℕ)
+  pub targets-view : (w : List ℕ) → length w ≡ tableWords n → (k x : ℕ)
       → colourAtObject (targetsGreyed copies w n o k) n x ≡ M.greyed (hits copies o k x) (colourAtObject w n x)
   unfolding targetsGreyed isRefAt
   targets-view w len zero x = rw (hits-none copies o x) (sym (grey-none (colourAtObject w n x)))
@@ -154,19 +154,19 @@ anyb-same (suc k) p q h = rw (h k (omega arith), anyb-same k p q (λ f l. h f (o
 pub points-view : (a : List ℕ) (o x : ℕ) → 1 ≤ o → points (view a o) x ≡ (occupied a o and hits a o 8 x)
 unfolding points view hits O.fields O.isRef
 points-view a o x l = rw (le-leb 1 o l) (assoc (occupied a o) (not (eqb x 0))
-    (anyb 8 (λ f. ltb f 4 and eqb (if (ltb f 8) (wordOf a o f) 0) x))
+    (anyb 8 (λ f. ltb f 4 and eqb (if (ltb f slotWords) (wordOf a o f) 0) x))
     (anyb 8 (λ f. ltb f 4 and eqb (wordOf a o f) x))
-    (anyb-same 8 _ _ (λ f k. rw (lt-ltb f 8 k) refl)))
+    (anyb-same 8 _ _ (λ f k. rw (lt-ltb f slotWords k) refl)))
   where
     assoc : (p q r s : Bool) → r ≡ s → (p and q and r) ≡ (p and (q and s))
     assoc p q r s e = rw e (and-nested p q s)
 
 -- what a scan leaves of the words below the colours
-module _ (n : ℕ) (copies w : List ℕ) (o : ℕ) (refs : (f : ℕ) → f < 4 → wordOf copies o f ≤ 16 * n) (len : length w ≡ 6 + 67 * n) (ok : isObject n o ≡ true) where
+module _ (n : ℕ) (copies w : List ℕ) (o : ℕ) (refs : (f : ℕ) → f < 4 → wordOf copies o f ≤ objectCount n) (len : length w ≡ tableWords n) (ok : isObject n o ≡ true) where
   targets : List ℕ
   targets = if (occupied copies o) (targetsGreyed copies w n o 8) w
 
-  length-kept : length targets ≡ 6 + 67 * n
+  length-kept : length targets ≡ tableWords n
   unfolding targets
   length-kept = by-bool (occupied copies o) (λ e. rw e (length-targets n copies o refs w len 8 ∙ len)) (λ e. rw e len)
 
@@ -180,7 +180,7 @@ module _ (n : ℕ) (copies w : List ℕ) (o : ℕ) (refs : (f : ℕ) → f < 4 �
       (λ e. rw (e, true-and (hits copies o 8 x)) (targets-view n copies o refs w len 8 x))
       (λ e. rw (e, false-and (hits copies o 8 x)) (sym (grey-none (colourAtObject w n x)))))
 
-  pub length-scanned : length (scanned copies w n o) ≡ 6 + 67 * n
+  pub length-scanned : length (scanned copies w n o) ≡ tableWords n
   unfolding scanned targets
   length-scanned = length-set targets (colourAt n o) 2 ∙ length-kept
 
@@ -193,11 +193,11 @@ module _ (n : ℕ) (copies w : List ℕ) (o : ℕ) (refs : (f : ℕ) → f < 4 �
   scanned-view x = coloured-view n targets length-kept o 2 x ok ∙ rw (colours x) refl
 
 -- a step's number, below the bound
-pub steps-suc : (w : List ℕ) (n : ℕ) → at w stepsAt < 17 * n → stepsNext w n ≡ suc (at w stepsAt)
-steps-suc w n l = let k : at w stepsAt + 1 ≤ 17 * n = omega arith in omega arith
+pub steps-suc : (w : List ℕ) (n : ℕ) → at w stepsAt < stepsTop n → stepsNext w n ≡ suc (at w stepsAt)
+steps-suc w n l = let k : at w stepsAt + 1 ≤ stepsTop n = omega arith in omega arith
 
-module _ (n : ℕ) (copies w : List ℕ) (o : ℕ) (refs : (f : ℕ) → f < 4 → wordOf copies o f ≤ 16 * n) (len : length w ≡ 6 + 67 * n) (ok : isObject n o ≡ true)
-    (low : 1 ≤ n) (room : at w stepsAt < 17 * n) where
+module _ (n : ℕ) (copies w : List ℕ) (o : ℕ) (refs : (f : ℕ) → f < 4 → wordOf copies o f ≤ objectCount n) (len : length w ≡ tableWords n) (ok : isObject n o ≡ true)
+    (low : 1 ≤ n) (room : at w stepsAt < stepsTop n) where
   abbrev pub scan : List ℕ
   scan = withPass (scanned copies w n o) 1 (at w passPageAt) (stepsNext w n)
 
@@ -233,7 +233,7 @@ module _ (n : ℕ) (copies w : List ℕ) (o : ℕ) (refs : (f : ℕ) → f < 4 �
   }
 
 -- a change of the pass record alone
-module _ (n : ℕ) (w : List ℕ) (phase page steps : ℕ) (len : length w ≡ 6 + 67 * n) where
+module _ (n : ℕ) (w : List ℕ) (phase page steps : ℕ) (len : length w ≡ tableWords n) where
   abbrev pub moved : List ℕ
   moved = withPass w phase page steps
 

@@ -15,6 +15,7 @@ use Rattle.collector.specs.Bits.{_and_, anyb, anyb-intro, anyb-elim, true-and, 
 use Rattle.collector.specs.Objects.{txns}
 use Rattle.collector.specs.State.{some, carried}
 use Rattle.shown.specs.Tables.{objectBit, flagBit}
+use Rattle.records.specs.Records.{txnCount}
 
 -- a word below 2 ^ k is 0 where no bit of it below k is set
 pub zero-anyb : (k m : ℕ) → m < 2 ^ k → not (eqb m 0) ≡ anyb k (bit m)
@@ -23,7 +24,7 @@ zero-anyb k m h = by-bool (anyb k (bit m))
     (λ e. rw (e, no-bits k m h (λ j l. by-bool (bit m j) (λ b. clash (anyb-intro k (bit m) j l b) e) (λ b. b))) refl)
 
 -- the lower bits of a word whose flag was cleared
-pub unflagged-bit : (m t : ℕ) → t < 16 → bit (withoutBit m flag) t ≡ bit m t
+pub unflagged-bit : (m t : ℕ) → t < txnCount → bit (withoutBit m flag) t ≡ bit m t
 unflagged-bit m t l = without-other m flag t (λ z. omega arith)
 
 pub unflagged-anyb : (m : ℕ) → m < 131072 → not (eqb (withoutBit m flag) 0) ≡ anyb 16 (bit m)
@@ -41,9 +42,9 @@ unflagged-anyb m h = zero-anyb 17 (withoutBit m flag) (let k = without-le m flag
 
 module _ (w : List ℕ) (n : ℕ) (place : ℕ → ℕ) (x : ℕ) (ok : isObject n x ≡ true) where
   -- the entries of an object
-  pub entry-bit : (t : ℕ) → t < 16 → objectBit w n place t x ≡ bit (at w (place x)) t
+  pub entry-bit : (t : ℕ) → t < txnCount → objectBit w n place t x ≡ bit (at w (place x)) t
   unfolding objectBit
-  entry-bit t l = rw (lt-ltb t 16 l, ok, true-and (true and has w (place x) t), true-and (has w (place x) t)) refl
+  entry-bit t l = rw (lt-ltb t txnCount l, ok, true-and (true and has w (place x) t), true-and (has w (place x) t)) refl
 
   pub flag-is : flagBit w n place x ≡ bit (at w (place x)) flag
   unfolding flagBit

@@ -10,8 +10,8 @@ use borrow.Author.Tests.{ltb-true, eqb-true, le-leb}
 use Rattle.words.specs.Tests.{if, by-bool, clash}
 use Rattle.words.specs.Bits.{withoutBit, without-same}
 use Rattle.words.specs.Spans.{over, fill, length-over, length-fill, over-inside, over-outside, fill-inside, fill-outside}
-use Rattle.pages.specs.Geometry.{isObject, root}
-use Rattle.areas.specs.Layout.{prunedAt, createdAt, colourAt, knownAt, unflushedAt}
+use Rattle.pages.specs.Geometry.{isObject, root, objectCount}
+use Rattle.areas.specs.Layout.{prunedAt, createdAt, colourAt, knownAt, unflushedAt, tableWords}
 use Rattle.areas.specs.Tables.{at, has, flag}
 use Rattle.calls.specs.Pass.{unflagged, firstColour, passStarted}
 use Rattle.collector.specs.Bits.{_and_, _or_, anyb, anyb-elim, and-l, and-r, false-and, true-and}
@@ -23,52 +23,53 @@ use Rattle.page_laws.specs.Places.{object-range}
 use Rattle.shown_pass.proofs.Kept.{locks-kept, known-kept, dirty-kept}
 use Rattle.shown_pass.proofs.Masks.{unflagged-bit, unflagged-anyb, some-is}
 use Rattle.shown_pass.proofs.Mark.{moved-locks, moved-tables, moved-pass}
+use Rattle.records.specs.Records.{txnCount}
 
-module _ (n : ℕ) (w : List ℕ) (len : length w ≡ 6 + 67 * n) (low : 1 ≤ n) where
+module _ (n : ℕ) (w : List ℕ) (len : length w ≡ tableWords n) (low : 1 ≤ n) where
   prunes : List ℕ
-  prunes = over (λ m. withoutBit m flag) w (prunedAt n 1) (16 * n)
+  prunes = over (λ m. withoutBit m flag) w (prunedAt n 1) (objectCount n)
 
-  length-prunes : length prunes ≡ 6 + 67 * n
+  length-prunes : length prunes ≡ tableWords n
   unfolding prunes
-  length-prunes = length-over (λ m. withoutBit m flag) w (prunedAt n 1) (16 * n) ∙ len
+  length-prunes = length-over (λ m. withoutBit m flag) w (prunedAt n 1) (objectCount n) ∙ len
 
-  length-unflagged : length (unflagged w n) ≡ 6 + 67 * n
+  length-unflagged : length (unflagged w n) ≡ tableWords n
   unfolding unflagged prunes
-  length-unflagged = length-over (λ m. withoutBit m flag) prunes (createdAt n 1) (16 * n) ∙ length-prunes
+  length-unflagged = length-over (λ m. withoutBit m flag) prunes (createdAt n 1) (objectCount n) ∙ length-prunes
 
   -- words outside the PRT and the COT
   unflagged-outside : (i : ℕ) → (6 + 19 * n ≤ i → i < 6 + 51 * n → ⊥) → at (unflagged w n) i ≡ at w i
   unfolding unflagged prunes
-  unflagged-outside i h = over-outside (λ m. withoutBit m flag) prunes (createdAt n 1) (16 * n) i 0 (λ k l z. h (omega arith) (omega arith))
-      ∙ over-outside (λ m. withoutBit m flag) w (prunedAt n 1) (16 * n) i 0 (λ k l z. h (omega arith) (omega arith))
+  unflagged-outside i h = over-outside (λ m. withoutBit m flag) prunes (createdAt n 1) (objectCount n) i 0 (λ k l z. h (omega arith) (omega arith))
+      ∙ over-outside (λ m. withoutBit m flag) w (prunedAt n 1) (objectCount n) i 0 (λ k l z. h (omega arith) (omega arith))
 
-  unflagged-pruned : (x : ℕ) → 1 ≤ x → x ≤ 16 * n → at (unflagged w n) (prunedAt n x) ≡ withoutBit (at w (prunedAt n x)) flag
+  unflagged-pruned : (x : ℕ) → 1 ≤ x → x ≤ objectCount n → at (unflagged w n) (prunedAt n x) ≡ withoutBit (at w (prunedAt n x)) flag
   unfolding unflagged prunes
-  unflagged-pruned x l u = over-outside (λ m. withoutBit m flag) prunes (createdAt n 1) (16 * n) (prunedAt n x) 0 (λ k h z. omega arith)
-      ∙ (let e : prunedAt n x ≡ prunedAt n 1 + (x - 1) = omega arith in rw e (over-inside (λ m. withoutBit m flag) w (prunedAt n 1) (16 * n) (x - 1) (omega arith) (omega arith)))
+  unflagged-pruned x l u = over-outside (λ m. withoutBit m flag) prunes (createdAt n 1) (objectCount n) (prunedAt n x) 0 (λ k h z. omega arith)
+      ∙ (let e : prunedAt n x ≡ prunedAt n 1 + (x - 1) = omega arith in rw e (over-inside (λ m. withoutBit m flag) w (prunedAt n 1) (objectCount n) (x - 1) (omega arith) (omega arith)))
 
-  unflagged-created : (x : ℕ) → 1 ≤ x → x ≤ 16 * n → at (unflagged w n) (createdAt n x) ≡ withoutBit (at w (createdAt n x)) flag
+  unflagged-created : (x : ℕ) → 1 ≤ x → x ≤ objectCount n → at (unflagged w n) (createdAt n x) ≡ withoutBit (at w (createdAt n x)) flag
   unfolding unflagged prunes
   unflagged-created x l u = let e : createdAt n x ≡ createdAt n 1 + (x - 1) = omega arith in
       let inner : at prunes (createdAt n 1 + (x - 1)) ≡ at w (createdAt n 1 + (x - 1)) =
-      over-outside (λ m. withoutBit m flag) w (prunedAt n 1) (16 * n) (createdAt n 1 + (x - 1)) 0 (λ k h z. omega arith) in
-      rw e (over-inside (λ m. withoutBit m flag) prunes (createdAt n 1) (16 * n) (x - 1) (let k = length-prunes in omega arith) (omega arith) ∙ rw inner refl)
+      over-outside (λ m. withoutBit m flag) w (prunedAt n 1) (objectCount n) (createdAt n 1 + (x - 1)) 0 (λ k h z. omega arith) in
+      rw e (over-inside (λ m. withoutBit m flag) prunes (createdAt n 1) (objectCount n) (x - 1) (let k = length-prunes in omega arith) (omega arith) ∙ rw inner refl)
 
   coloursSet : List ℕ
-  coloursSet = fill (λ k. firstColour (unflagged w n) n (k + 1)) (unflagged w n) (colourAt n 1) (16 * n)
+  coloursSet = fill (λ k. firstColour (unflagged w n) n (k + 1)) (unflagged w n) (colourAt n 1) (objectCount n)
 
-  length-colours : length coloursSet ≡ 6 + 67 * n
+  length-colours : length coloursSet ≡ tableWords n
   unfolding coloursSet
-  length-colours = length-fill (λ k. firstColour (unflagged w n) n (k + 1)) (unflagged w n) (colourAt n 1) (16 * n) ∙ length-unflagged
+  length-colours = length-fill (λ k. firstColour (unflagged w n) n (k + 1)) (unflagged w n) (colourAt n 1) (objectCount n) ∙ length-unflagged
 
   colours-low : (i : ℕ) → i < 6 + 51 * n → at coloursSet i ≡ at (unflagged w n) i
   unfolding coloursSet
-  colours-low i l = fill-outside (λ k. firstColour (unflagged w n) n (k + 1)) (unflagged w n) (colourAt n 1) (16 * n) i 0 (λ k h z. omega arith)
+  colours-low i l = fill-outside (λ k. firstColour (unflagged w n) n (k + 1)) (unflagged w n) (colourAt n 1) (objectCount n) i 0 (λ k h z. omega arith)
 
-  colours-at : (x : ℕ) → 1 ≤ x → x ≤ 16 * n → at coloursSet (colourAt n x) ≡ firstColour (unflagged w n) n x
+  colours-at : (x : ℕ) → 1 ≤ x → x ≤ objectCount n → at coloursSet (colourAt n x) ≡ firstColour (unflagged w n) n x
   unfolding coloursSet
   colours-at x l u = let e : colourAt n x ≡ colourAt n 1 + (x - 1) = omega arith in let d : (x - 1) + 1 ≡ x = omega arith in
-      rw e (fill-inside (λ k. firstColour (unflagged w n) n (k + 1)) (unflagged w n) (colourAt n 1) (16 * n) (x - 1) (let k = length-unflagged in omega arith) (omega arith)
+      rw e (fill-inside (λ k. firstColour (unflagged w n) n (k + 1)) (unflagged w n) (colourAt n 1) (objectCount n) (x - 1) (let k = length-unflagged in omega arith) (omega arith)
       ∙ ap (firstColour (unflagged w n) n) d)
 
   -- what the words below the PRT and the tables show
@@ -77,14 +78,14 @@ module _ (n : ℕ) (w : List ℕ) (len : length w ≡ 6 + 67 * n) (low : 1 ≤ n
   start-locks = moved-locks n coloursSet 1 0 0 length-colours
       ∙ locks-kept coloursSet w n (λ i l u. colours-low i (omega arith) ∙ unflagged-outside i (λ a b. omega arith))
 
-  entries : (place : ℕ → ℕ) → ((x : ℕ) → 1 ≤ x → x ≤ 16 * n → at coloursSet (place x) ≡ withoutBit (at w (place x)) flag) → objectBit coloursSet n place ≡ objectBit w n place
+  entries : (place : ℕ → ℕ) → ((x : ℕ) → 1 ≤ x → x ≤ objectCount n → at coloursSet (place x) ≡ withoutBit (at w (place x)) flag) → objectBit coloursSet n place ≡ objectBit w n place
   unfolding objectBit
   entries place h = λ i t x. go t x i
     where
-      go : (t x : ℕ) → (ltb t 16 and (isObject n x and has coloursSet (place x) t)) ≡ (ltb t 16 and (isObject n x and has w (place x) t))
-      go t x = by-bool (ltb t 16)
+      go : (t x : ℕ) → (ltb t txnCount and (isObject n x and has coloursSet (place x) t)) ≡ (ltb t txnCount and (isObject n x and has w (place x) t))
+      go t x = by-bool (ltb t txnCount)
           (λ e. rw e (by-bool (isObject n x)
-          (λ o. let r = object-range n x o in rw (o, h x (r .0) (r .1), unflagged-bit (at w (place x)) t (ltb-true t 16 e)) refl)
+          (λ o. let r = object-range n x o in rw (o, h x (r .0) (r .1), unflagged-bit (at w (place x)) t (ltb-true t txnCount e)) refl)
           (λ o. rw (o, false-and (has coloursSet (place x) t), false-and (has w (place x) t)) refl)))
           (λ e. rw (e, false-and (isObject n x and has coloursSet (place x) t), false-and (isObject n x and has w (place x) t)) refl)
 
@@ -111,16 +112,16 @@ module _ (n : ℕ) (w : List ℕ) (len : length w ≡ 6 + 67 * n) (low : 1 ≤ n
     dirty = dirty-kept coloursSet w n (λ k l u. colours-low k (omega arith) ∙ unflagged-outside k (λ a b. omega arith)) i;
   }
 
-  module _ (flags : (x : ℕ) → 1 ≤ x → x ≤ 16 * n → at w (prunedAt n x) < 131072) where
+  module _ (flags : (x : ℕ) → 1 ≤ x → x ≤ objectCount n → at w (prunedAt n x) < 131072) where
     none-beyond : (x : ℕ) → isObject n x ≡ false → some (objectBit w n (prunedAt n)) x ≡ false
     unfolding objectBit txns
-    none-beyond x o = by-bool (anyb 16 (λ t. ltb t 16 and (isObject n x and has w (prunedAt n x) t)))
-        (λ e. anyb-elim 16 (λ t. ltb t 16 and (isObject n x and has w (prunedAt n x) t)) e
+    none-beyond x o = by-bool (anyb 16 (λ t. ltb t txnCount and (isObject n x and has w (prunedAt n x) t)))
+        (λ e. anyb-elim 16 (λ t. ltb t txnCount and (isObject n x and has w (prunedAt n x) t)) e
         (λ t l b. clash (and-l _ _ (and-r _ _ b)) o))
         (λ e. e)
 
     root-inside : isObject n root ≡ true
-    root-inside = rw (le-leb 1 root (omega arith), le-leb root (16 * n) (omega arith)) refl
+    root-inside = rw (le-leb 1 root (omega arith), le-leb root (objectCount n) (omega arith)) refl
 
     first-colours : (x : ℕ) → colourAtObject coloursSet n x ≡ M.greyed (eqb x 1 or some (objectBit w n (prunedAt n)) x) white
     unfolding colourAtObject M.greyed _or_

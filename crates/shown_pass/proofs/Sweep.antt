@@ -11,9 +11,9 @@ use lib.Dec.{ltb, leb, eqb}
 use borrow.Author.Tests.{ltb-true, eqb-true, eqb-false, eq-eqb, ne-eqb, le-leb, leb-true, leb-false}
 use Rattle.words.specs.Tests.{if, by-bool, clash, and-true, and-false}
 use Rattle.words.specs.Bits.{bit, bit-none, map-bit}
-use Rattle.pages.specs.Geometry.{isObject, objectAt, pageAt, pageOf, slotOf}
+use Rattle.pages.specs.Geometry.{isObject, objectAt, pageAt, pageOf, slotOf, pageWords, objectCount}
 use Rattle.pages.specs.Objects.{taken, occupied, released}
-use Rattle.areas.specs.Layout.{passPageAt, stepsAt, createdAt, colourAt}
+use Rattle.areas.specs.Layout.{passPageAt, stepsAt, createdAt, colourAt, tableWords, stepsTop}
 use Rattle.areas.specs.Tables.{at, isWhite, stepsNext}
 use Rattle.calls.specs.Pass.{unmarked, sweepMap, advanced}
 use Rattle.collector.specs.Bits.{_and_}
@@ -42,7 +42,7 @@ white-is zero = refl
 white-is (suc zero) = refl
 white-is (suc (suc c)) = sym (ne-eqb (suc (suc c)) 0 (omega arith))
 
-module _ (n : ℕ) (copies w : List ℕ) (created : (x : ℕ) → 1 ≤ x → x ≤ 16 * n → at w (createdAt n x) < 131072) where
+module _ (n : ℕ) (copies w : List ℕ) (created : (x : ℕ) → 1 ≤ x → x ≤ objectCount n → at w (createdAt n x) < 131072) where
   -- the machine's test of an object, without its page
   abbrev pub doomed : ℕ → Bool
   doomed x = view copies x .occ and M.isWhite (colourAtObject w n x) and not (carried (objectBit w n (createdAt n)) (flagBit w n (createdAt n)) x)
@@ -51,10 +51,10 @@ module _ (n : ℕ) (copies w : List ℕ) (created : (x : ℕ) → 1 ≤ x → x 
   unfolding colourAtObject
   white-object x o = rw o (white-is (at w (colourAt n x)))
 
-  pub slot-doomed : (x p : ℕ) → 1 ≤ x → x ≤ 16 * n → pageOf x ≡ p → bit (sweepMap copies w n p) (slotOf x) ≡ doomed x
+  pub slot-doomed : (x p : ℕ) → 1 ≤ x → x ≤ objectCount n → pageOf x ≡ p → bit (sweepMap copies w n p) (slotOf x) ≡ doomed x
   unfolding sweepMap view _and_
   slot-doomed x p l u e =
-      let o : isObject n x ≡ true = rw (le-leb 1 x l, le-leb x (16 * n) u) refl in
+      let o : isObject n x ≡ true = rw (le-leb 1 x l, le-leb x (objectCount n) u) refl in
       let same : objectAt p (slotOf x) ≡ x = omega arith in
       map-bit (λ s. taken copies p s && unmarked w n p s) 16 (slotOf x) (slot-small x)
       ∙ rw (same, ← e, le-leb 1 x l, white-object x o, carried-is w n (createdAt n) x o (created x l u)) (regroup (occupied copies x) (isWhite w n x) (eqb (at w (createdAt n x)) 0))
@@ -66,19 +66,19 @@ module _ (n : ℕ) (copies w : List ℕ) (created : (x : ℕ) → 1 ≤ x → x 
       regroup false b c = refl
 
   -- out of the store nothing is occupied in the copies
-  beyond : length copies ≡ 129 * n → (x : ℕ) → (1 ≤ x → x ≤ 16 * n → ⊥) → view copies x .occ ≡ false
+  beyond : length copies ≡ pageWords * n → (x : ℕ) → (1 ≤ x → x ≤ objectCount n → ⊥) → view copies x .occ ≡ false
   unfolding view blank
   beyond len zero h = refl
   beyond len (suc k) h = rw (le-leb 1 (suc k) (omega arith), List·getD-eq-default copies 0 (outside k (h (omega arith)))) (bit-none (slotOf (suc k)))
     where
-      outside : (k : ℕ) → (suc k ≤ 16 * n → ⊥) → length copies ≤ pageAt (pageOf (suc k))
-      outside k out = let big : 16 * n < suc k = by-bool (leb (suc k) (16 * n)) (λ e. absurd (out (leb-true (suc k) (16 * n) e))) (λ e. leb-false (suc k) (16 * n) e) in omega arith
+      outside : (k : ℕ) → (suc k ≤ objectCount n → ⊥) → length copies ≤ pageAt (pageOf (suc k))
+      outside k out = let big : objectCount n < suc k = by-bool (leb (suc k) (objectCount n)) (λ e. absurd (out (leb-true (suc k) (objectCount n) e))) (λ e. leb-false (suc k) (objectCount n) e) in omega arith
 
   -- the machine's dead objects of page p
   abbrev pub deadAt : ℕ → ℕ → Bool
   deadAt p x = eqb (O.pageOf x) p and view copies x .occ and M.isWhite (colourAtObject w n x) and not (carried (objectBit w n (createdAt n)) (flagBit w n (createdAt n)) x)
 
-  pub deadAt-is : length copies ≡ 129 * n → (p x : ℕ) → p < n → deadAt p x ≡ (eqb p (pageOf x) && bit (sweepMap copies w n p) (slotOf x) && leb 1 x)
+  pub deadAt-is : length copies ≡ pageWords * n → (p x : ℕ) → p < n → deadAt p x ≡ (eqb p (pageOf x) && bit (sweepMap copies w n p) (slotOf x) && leb 1 x)
   unfolding O.pageOf _and_
   deadAt-is len p x hp = by-bool (eqb (pageOf x) p)
       (λ e. let q = eqb-true (pageOf x) p e in by-bool (leb 1 x)
@@ -87,14 +87,14 @@ module _ (n : ℕ) (copies w : List ℕ) (created : (x : ℕ) → 1 ≤ x → x 
       (λ e. rw (e, ne-eqb p (pageOf x) (λ z. eqb-false (pageOf x) p e (sym z))) refl)
 
   -- the objects of an area after the sweep of page p
-  pub swept-view : length copies ≡ 129 * n → (a : List ℕ) → length a ≡ 129 * n → (p x : ℕ) → p < n
+  pub swept-view : length copies ≡ pageWords * n → (a : List ℕ) → length a ≡ pageWords * n → (p x : ℕ) → p < n
       → view (released a p (sweepMap copies w n p)) x ≡ cond (deadAt p x) blank (view a x)
   swept-view lc a len p zero hp = rw (deadAt-is lc p 0 hp, and-false (eqb p (pageOf 0) && bit (sweepMap copies w n p) (slotOf 0))) (nobody (released a p (sweepMap copies w n p)) ∙ sym (nobody a))
   swept-view lc a len p (suc k) hp = released-view n a len p (sweepMap copies w n p) hp (suc k) (omega arith)
       ∙ rw (deadAt-is lc p (suc k) hp, le-leb 1 (suc k) (omega arith), and-true (eqb p (pageOf (suc k)) && bit (sweepMap copies w n p) (slotOf (suc k)))) (if-cond (eqb p (pageOf (suc k)) && bit (sweepMap copies w n p) (slotOf (suc k))) blank (view a (suc k)))
 
 -- the pass record after the page
-module _ (n : ℕ) (w : List ℕ) (len : length w ≡ 6 + 67 * n) (room : at w stepsAt < 17 * n ⊎ (at w passPageAt + 1 < n → ⊥)) (sweeps : phaseOf (at w 2) ≡ M.sweeping) where
+module _ (n : ℕ) (w : List ℕ) (len : length w ≡ tableWords n) (room : at w stepsAt < stepsTop n ⊎ (at w passPageAt + 1 < n → ⊥)) (sweeps : phaseOf (at w 2) ≡ M.sweeping) where
   pub on-locks : locksOf (advanced w n (at w passPageAt)) n ≡ locksOf w n
   unfolding advanced
   on-locks = by-bool (ltb (at w passPageAt + 1) n) (λ e. rw e (moved-locks n w 2 (at w passPageAt + 1) (stepsNext w n) len)) (λ e. rw e (moved-locks n w 0 0 0 len))

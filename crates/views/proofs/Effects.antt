@@ -9,7 +9,7 @@ use lib.Dec.{eqb, ltb}
 use borrow.Author.Tests.{eqb-true, eqb-false, eq-eqb, ne-eqb, lt-ltb, ltb-true, ltb-false, le-leb}
 use Rattle.words.specs.Tests.{if, by-bool, and-true, and-false, or-true, or-false}
 use Rattle.words.specs.Bits.{bit}
-use Rattle.pages.specs.Geometry.{pageOf, slotOf}
+use Rattle.pages.specs.Geometry.{pageOf, slotOf, pageWords, objectCount, slotWords}
 use Rattle.pages.specs.Objects.{occupied, wordOf, occupy, release, written, released}
 use Rattle.page_laws.specs.Places.{map-set}
 use Rattle.collector.specs.Objects.{Obj, blank, fresh, put}
@@ -45,14 +45,14 @@ module _ (a : List ℕ) (x : ℕ) (hx : 1 ≤ x) where
   pub view-occ : view a x .occ ≡ occupied a x
   view-occ = rw view-here
 
-  pub view-word : (f : ℕ) → f < 8 → view a x .word f ≡ wordOf a x f
-  view-word f l = rw (view-here, lt-ltb f 8 l)
+  pub view-word : (f : ℕ) → f < slotWords → view a x .word f ≡ wordOf a x f
+  view-word f l = rw (view-here, lt-ltb f slotWords l)
 
-  pub view-free : occupied a x ≡ false → ((f : ℕ) → f < 8 → wordOf a x f ≡ 0) → view a x ≡ blank
+  pub view-free : occupied a x ≡ false → ((f : ℕ) → f < slotWords → wordOf a x f ≡ 0) → view a x ≡ blank
   unfolding blank
-  view-free e z = rw view-here (obj-ext _ _ e (λ f. by-bool (ltb f 8) (λ h. rw h (z f (ltb-true f 8 h))) (λ h. rw h refl)))
+  view-free e z = rw view-here (obj-ext _ _ e (λ f. by-bool (ltb f slotWords) (λ h. rw h (z f (ltb-true f slotWords h))) (λ h. rw h refl)))
 
-module _ (n : ℕ) (a : List ℕ) (len : length a ≡ 129 * n) (o : ℕ) (ho : 1 ≤ o) (lo : o ≤ 16 * n) where
+module _ (n : ℕ) (a : List ℕ) (len : length a ≡ pageWords * n) (o : ℕ) (ho : 1 ≤ o) (lo : o ≤ objectCount n) where
   not-zero : eqb 0 o ≡ false
   not-zero = ne-eqb 0 o (omega arith)
 
@@ -62,8 +62,8 @@ module _ (n : ℕ) (a : List ℕ) (len : length a ≡ 129 * n) (o : ℕ) (ho : 1
   occupy-view (suc k) = let x = suc k in let l : 1 ≤ suc k = omega arith in rw (le-leb 1 (suc k) l) (obj-ext _ _
       (taken-occ n a len (pageOf o) (slotOf o) (page-small n o ho lo) (slot-small o) (pageOf x) (slotOf x)
       ∙ rw (here-object o x ho l) (by-bool (eqb (suc k) o) (λ e. rw e (or-true (occupied a (suc k)))) (λ e. rw e (or-false (occupied a (suc k))))))
-      (λ f. by-bool (ltb f 8)
-      (λ h. rw h (taken-word n a len (pageOf o) (slotOf o) (page-small n o ho lo) (slot-small o) (pageOf x) (slotOf x) f (slot-small x) (ltb-true f 8 h)
+      (λ f. by-bool (ltb f slotWords)
+      (λ h. rw h (taken-word n a len (pageOf o) (slotOf o) (page-small n o ho lo) (slot-small o) (pageOf x) (slotOf x) f (slot-small x) (ltb-true f slotWords h)
       ∙ rw (here-object o x ho l) (by-bool (eqb (suc k) o) (λ e. rw e refl) (λ e. rw (e, h) refl))))
       (λ h. rw h (by-bool (eqb (suc k) o) (λ e. rw e refl) (λ e. rw (e, h) refl)))))
 
@@ -73,25 +73,25 @@ module _ (n : ℕ) (a : List ℕ) (len : length a ≡ 129 * n) (o : ℕ) (ho : 1
   release-view (suc k) = let x = suc k in let l : 1 ≤ suc k = omega arith in rw (le-leb 1 (suc k) l) (obj-ext _ _
       (freed-occ n a len (pageOf o) (slotOf o) (page-small n o ho lo) (slot-small o) (pageOf x) (slotOf x)
       ∙ rw (here-object o x ho l) (by-bool (eqb (suc k) o) (λ e. rw e (and-false (occupied a (suc k)))) (λ e. rw e (and-true (occupied a (suc k))))))
-      (λ f. by-bool (ltb f 8)
-      (λ h. rw h (freed-word n a len (pageOf o) (slotOf o) (page-small n o ho lo) (slot-small o) (pageOf x) (slotOf x) f (slot-small x) (ltb-true f 8 h)
+      (λ f. by-bool (ltb f slotWords)
+      (λ h. rw h (freed-word n a len (pageOf o) (slotOf o) (page-small n o ho lo) (slot-small o) (pageOf x) (slotOf x) f (slot-small x) (ltb-true f slotWords h)
       ∙ rw (here-object o x ho l) (by-bool (eqb (suc k) o) (λ e. rw e refl) (λ e. rw (e, h) refl))))
       (λ h. rw h (by-bool (eqb (suc k) o) (λ e. rw e refl) (λ e. rw (e, h) refl)))))
 
-  pub written-view : (f v : ℕ) → f < 8 → (x : ℕ) → view (written a o f v) x ≡ if (eqb x o) (put (view a o) f v) (view a x)
+  pub written-view : (f v : ℕ) → f < slotWords → (x : ℕ) → view (written a o f v) x ≡ if (eqb x o) (put (view a o) f v) (view a x)
   unfolding view put
   written-view f v hf zero = rw not-zero refl
   written-view f v hf (suc k) = let x = suc k in let l : 1 ≤ suc k = omega arith in rw (le-leb 1 (suc k) l, le-leb 1 o ho) (by-bool (eqb (suc k) o)
       (λ e. rw (e, eqb-true (suc k) o e) (obj-ext _ _
       (ap (λ (m : ℕ). bit m (slotOf o)) (map-set a (pageOf o) (slotOf o) f v (slot-small o) hf (omega arith) (pageOf o)))
-      (λ g. by-bool (ltb g 8)
-      (λ h. rw h (put-word n a len (pageOf o) (slotOf o) f v (page-small n o ho lo) (slot-small o) hf (pageOf o) (slotOf o) g (slot-small o) (ltb-true g 8 h)
+      (λ g. by-bool (ltb g slotWords)
+      (λ h. rw h (put-word n a len (pageOf o) (slotOf o) f v (page-small n o ho lo) (slot-small o) hf (pageOf o) (slotOf o) g (slot-small o) (ltb-true g slotWords h)
       ∙ rw (here-object o o ho ho, eq-eqb o o refl) (if-cond (eqb g f) v (wordOf a o g))))
-      (λ h. rw (h, ne-eqb g f (λ z. let y = ltb-false g 8 h in omega arith)) refl))))
+      (λ h. rw (h, ne-eqb g f (λ z. let y = ltb-false g slotWords h in omega arith)) refl))))
       (λ e. rw e (obj-ext _ _
       (ap (λ (m : ℕ). bit m (slotOf x)) (map-set a (pageOf o) (slotOf o) f v (slot-small o) hf (omega arith) (pageOf x)))
-      (λ g. by-bool (ltb g 8)
-      (λ h. rw h (put-word n a len (pageOf o) (slotOf o) f v (page-small n o ho lo) (slot-small o) hf (pageOf x) (slotOf x) g (slot-small x) (ltb-true g 8 h)
+      (λ g. by-bool (ltb g slotWords)
+      (λ h. rw h (put-word n a len (pageOf o) (slotOf o) f v (page-small n o ho lo) (slot-small o) hf (pageOf x) (slotOf x) g (slot-small x) (ltb-true g slotWords h)
       ∙ rw (here-object o x ho l, e) refl))
       (λ h. rw h refl)))))
     where
@@ -100,7 +100,7 @@ module _ (n : ℕ) (a : List ℕ) (len : length a ≡ 129 * n) (o : ℕ) (ho : 1
       if-cond false v w = refl
 
 -- a sweep of page p frees object x
-module _ (n : ℕ) (a : List ℕ) (len : length a ≡ 129 * n) (p m : ℕ) (hp : p < n) where
+module _ (n : ℕ) (a : List ℕ) (len : length a ≡ pageWords * n) (p m : ℕ) (hp : p < n) where
   abbrev frees : ℕ → Bool
   frees x = eqb p (pageOf x) && bit m (slotOf x)
 
@@ -114,7 +114,7 @@ module _ (n : ℕ) (a : List ℕ) (len : length a ≡ 129 * n) (p m : ℕ) (hp :
   released-view x l = rw (le-leb 1 x l) (obj-ext _ _
       (released-occ n a len p m hp 16 (omega arith) (pageOf x) (slotOf x) ∙ rw (within-all x)
       (by-bool (frees x) (λ e. rw e (and-false (occupied a x))) (λ e. rw e (and-true (occupied a x)))))
-      (λ f. by-bool (ltb f 8)
-      (λ h. rw h (released-word n a len p m hp 16 (omega arith) (pageOf x) (slotOf x) f (slot-small x) (ltb-true f 8 h)
+      (λ f. by-bool (ltb f slotWords)
+      (λ h. rw h (released-word n a len p m hp 16 (omega arith) (pageOf x) (slotOf x) f (slot-small x) (ltb-true f slotWords h)
       ∙ rw (within-all x) (by-bool (frees x) (λ e. rw e refl) (λ e. rw (e, h) refl))))
       (λ h. rw h (by-bool (frees x) (λ e. rw e refl) (λ e. rw (e, h) refl)))))

@@ -9,7 +9,7 @@ use lib.Dec.{eqb}
 use borrow.Author.Tests.{eqb-true}
 use Rattle.words.specs.Tests.{if, by-bool, eqb-swap}
 use Rattle.words.specs.Bits.{bit}
-use Rattle.pages.specs.Geometry.{pageOf, slotOf}
+use Rattle.pages.specs.Geometry.{pageOf, slotOf, pageWords, objectCount}
 use Rattle.pages.specs.Objects.{released}
 use Rattle.records.specs.declared.Record.{Record}
 use Rattle.records.specs.Soundness.{namesObject, recordSound}
@@ -32,11 +32,11 @@ pub kind-of : (r : Record) → Kind r
 kind-of r = by-bool (eqb (r .kind) 2) (λ e. creates (eqb-true (r .kind) 2 e)) (λ a. by-bool (eqb (r .kind) 3) (λ e. sets (eqb-true (r .kind) 3 e))
     (λ b. by-bool (eqb (r .kind) 6) (λ e. uncreates (eqb-true (r .kind) 6 e)) (λ c. by-bool (eqb (r .kind) 7) (λ e. frees (eqb-true (r .kind) 7 e)) (λ d. other a b c d))))
 
-module _ (n : ℕ) (a : List ℕ) (len : length a ≡ 129 * n) (r : Record) (ok : recordSound n r ≡ true) where
+module _ (n : ℕ) (a : List ℕ) (len : length a ≡ pageWords * n) (r : Record) (ok : recordSound n r ≡ true) where
   facts : SoundRecord n r
   facts = sound-record n r ok
 
-  range : namesObject r ≡ true → (1 ≤ r .object) × (r .object ≤ 16 * n)
+  range : namesObject r ≡ true → (1 ≤ r .object) × (r .object ≤ objectCount n)
   range = named-object n r facts
 
   put-here : (x f v : ℕ) → if (eqb (r .object) x) (put (view a (r .object)) f v) (view a x) ≡ if (eqb (r .object) x) (put (view a x) f v) (view a x)

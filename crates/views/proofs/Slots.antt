@@ -9,7 +9,7 @@ use lib.Dec.{eqb, ltb}
 use borrow.Author.Tests.{eqb-true}
 use Rattle.words.specs.Tests.{if, by-bool, and-true, or-false}
 use Rattle.words.specs.Bits.{bit, withBit, withoutBit, bit-with, bit-without}
-use Rattle.pages.specs.Geometry.{slotAt}
+use Rattle.pages.specs.Geometry.{slotAt, pageWords, slotCount, slotWords}
 use Rattle.pages.specs.Objects.{mapAt, taken, slotWord, takenSlot, freedSlot, releasedIn}
 use Rattle.page_laws.specs.BitLaws.{clear-bit}
 use Rattle.page_laws.specs.Places.{Holds, map-put, word-put, word-set, map-released-in, word-released-in}
@@ -18,7 +18,7 @@ use Rattle.page_laws.specs.Places.{Holds, map-put, word-put, word-set, map-rele
 abbrev pub here : ℕ → ℕ → ℕ → ℕ → Bool
 here p s q r = eqb q p && eqb r s
 
-module _ (n : ℕ) (a : List ℕ) (len : length a ≡ 129 * n) (p s : ℕ) (hp : p < n) (hs : s < 16) where
+module _ (n : ℕ) (a : List ℕ) (len : length a ≡ pageWords * n) (p s : ℕ) (hp : p < n) (hs : s < slotCount) where
   held : Holds a p
   held = omega arith
 
@@ -34,11 +34,11 @@ module _ (n : ℕ) (a : List ℕ) (len : length a ≡ 129 * n) (p s : ℕ) (hp :
       (λ e. rw (e, eqb-true q p e) (bit-without (mapAt a p) s r))
       (λ e. rw e (sym (and-true (bit (mapAt a q) r))))
 
-  pub taken-word : (q r f : ℕ) → r < 16 → f < 8 → slotWord (takenSlot a p s) q r f ≡ if (here p s q r) 0 (slotWord a q r f)
+  pub taken-word : (q r f : ℕ) → r < slotCount → f < slotWords → slotWord (takenSlot a p s) q r f ≡ if (here p s q r) 0 (slotWord a q r f)
   unfolding takenSlot
   taken-word q r f hr hf = word-put a p s (withBit (mapAt a p) s) hs held q r f hr hf
 
-  pub freed-word : (q r f : ℕ) → r < 16 → f < 8 → slotWord (freedSlot a p s) q r f ≡ if (here p s q r) 0 (slotWord a q r f)
+  pub freed-word : (q r f : ℕ) → r < slotCount → f < slotWords → slotWord (freedSlot a p s) q r f ≡ if (here p s q r) 0 (slotWord a q r f)
   unfolding freedSlot
   freed-word q r f hr hf = word-put a p s (withoutBit (mapAt a p) s) hs held q r f hr hf
 
@@ -46,19 +46,19 @@ module _ (n : ℕ) (a : List ℕ) (len : length a ≡ 129 * n) (p s : ℕ) (hp :
 abbrev pub within : ℕ → ℕ → ℕ → ℕ → ℕ → Bool
 within p m k q r = eqb q p && (ltb r k && bit m r)
 
-module _ (n : ℕ) (a : List ℕ) (len : length a ≡ 129 * n) (p m : ℕ) (hp : p < n) where
+module _ (n : ℕ) (a : List ℕ) (len : length a ≡ pageWords * n) (p m : ℕ) (hp : p < n) where
   holds : Holds a p
   holds = omega arith
 
-  pub released-occ : (k : ℕ) → k ≤ 16 → (q r : ℕ) → taken (releasedIn a p m k) q r ≡ (taken a q r && not (within p m k q r))
+  pub released-occ : (k : ℕ) → k ≤ slotCount → (q r : ℕ) → taken (releasedIn a p m k) q r ≡ (taken a q r && not (within p m k q r))
   released-occ k l q r = ap (λ (w : ℕ). bit w r) (map-released-in a p m holds k q l) ∙ by-bool (eqb q p)
       (λ e. rw (e, eqb-true q p e) (clear-bit (mapAt a p) m k r))
       (λ e. rw e (sym (and-true (taken a q r))))
 
-  pub released-word : (k : ℕ) → k ≤ 16 → (q r f : ℕ) → r < 16 → f < 8 → slotWord (releasedIn a p m k) q r f ≡ if (within p m k q r) 0 (slotWord a q r f)
+  pub released-word : (k : ℕ) → k ≤ slotCount → (q r f : ℕ) → r < slotCount → f < slotWords → slotWord (releasedIn a p m k) q r f ≡ if (within p m k q r) 0 (slotWord a q r f)
   released-word k l q r f hr hf = word-released-in a p m holds k q r f l hr hf
 
 -- one word written
-module _ (n : ℕ) (a : List ℕ) (len : length a ≡ 129 * n) (p s f v : ℕ) (hp : p < n) (hs : s < 16) (hf : f < 8) where
-  pub put-word : (q r g : ℕ) → r < 16 → g < 8 → slotWord (set a (slotAt p s f) v) q r g ≡ if (here p s q r && eqb g f) v (slotWord a q r g)
+module _ (n : ℕ) (a : List ℕ) (len : length a ≡ pageWords * n) (p s f v : ℕ) (hp : p < n) (hs : s < slotCount) (hf : f < slotWords) where
+  pub put-word : (q r g : ℕ) → r < slotCount → g < slotWords → slotWord (set a (slotAt p s f) v) q r g ≡ if (here p s q r && eqb g f) v (slotWord a q r g)
   put-word q r g hr hg = word-set a p s f v hs hf (omega arith) q r g hr hg

@@ -8,10 +8,11 @@ use Rattle.pages.specs.Objects.{occupied, wordOf}
 use Rattle.records.specs.declared.Record.{Record}
 use Rattle.collector.specs.Objects.{Obj, blank, fresh, put}
 use Rattle.book.specs.Pointers.{sweeps}
+use Rattle.pages.specs.Geometry.{slotWords}
 
 -- object x of an area; number 0 is nobody
 abbrev pub shown : List ℕ → ℕ → Obj
-shown a x = record { occ = occupied a x; word = λ f. if (ltb f 8) (wordOf a x f) 0 }
+shown a x = record { occ = occupied a x; word = λ f. if (ltb f slotWords) (wordOf a x f) 0 }
 
 unfoldable pub view : List ℕ → ℕ → Obj
 view a x = if (leb 1 x) (shown a x) blank
