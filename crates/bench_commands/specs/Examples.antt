@@ -17,9 +17,11 @@ use Rattle.bench_names.specs.declared.PassCall.the-variants.{Pass, Step}
 use Rattle.bench_names.specs.declared.ReopeningCall.the-variants.{Reopen, Restep}
 use Rattle.bench_commands.specs.Commands.{numbersFrom, commandOf}
 
+-- a line and its command
 abbrev pub Row : Type 0
 Row = String × Command
 
+-- one such example
 abbrev pub row : String → Command → Row
 row s c = (s, c)
 

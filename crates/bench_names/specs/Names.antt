@@ -15,51 +15,67 @@ use Rattle.bench_names.specs.declared.ReopeningCall.the-variants.{Reopen
 
 -- "The calls are `begin`, `commit`, `abort` ..": their names, which are exact; upper case and spaces are other bytes
 
+-- 'begin'
 abbrev pub begin : List ℕ
 begin = bytes "begin"
 
+-- 'commit'
 abbrev pub commit : List ℕ
 commit = bytes "commit"
 
+-- 'abort'
 abbrev pub abort : List ℕ
 abort = bytes "abort"
 
+-- 'lockr'
 abbrev pub lockr : List ℕ
 lockr = bytes "lockr"
 
+-- 'lockw'
 abbrev pub lockw : List ℕ
 lockw = bytes "lockw"
 
+-- 'flush'
 abbrev pub flush : List ℕ
 flush = bytes "flush"
 
+-- 'read'
 abbrev pub read : List ℕ
 read = bytes "read"
 
+-- 'create'
 abbrev pub create : List ℕ
 create = bytes "create"
 
+-- 'set'
 abbrev pub set : List ℕ
 set = bytes "set"
 
+-- 'store'
 abbrev pub store : List ℕ
 store = bytes "store"
 
+-- 'force'
 abbrev pub force : List ℕ
 force = bytes "force"
 
+-- 'empty'
 abbrev pub empty : List ℕ
 empty = bytes "empty"
 
+-- 'pass'
 abbrev pub pass : List ℕ
 pass = bytes "pass"
 
+-- 'step'
 abbrev pub step : List ℕ
 step = bytes "step"
 
+-- 'reopen'
 abbrev pub reopen : List ℕ
 reopen = bytes "reopen"
 
+-- 'restep'
 abbrev pub restep : List ℕ
 restep = bytes "restep"
 

@@ -7,9 +7,11 @@ use Rattle.texts.specs.Text.{bytes}
 use Rattle.decimals.specs.Decimal.{digitsIn, decimal}
 use Rattle.bench_output.specs.Output.{outputLine}
 
+-- number, answer and value, and the line
 abbrev pub Output : Type 0
 Output = ℕ × ℕ × ℕ × String
 
+-- one such example
 abbrev pub output : ℕ → ℕ → ℕ → String → Output
 output n a v s = (n, a, v, s)
 

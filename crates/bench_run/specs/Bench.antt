@@ -28,9 +28,11 @@ use Rattle.bench_output.specs.Output.{outputLine}
 
 -- 'P = 4, L = 64'
 
+-- 'It formats P = 4'
 abbrev pub benchPages : ℕ
 benchPages = 4
 
+-- 'L = 64'
 abbrev pub benchRecords : ℕ
 benchRecords = 64
 

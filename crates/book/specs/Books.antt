@@ -5,7 +5,7 @@ use mathlib.Core.List.{List, []}
 use lib.ListN.{length, drop}
 use lib.Dec.{eqb}
 use Rattle.words.specs.Tests.{any}
-use Rattle.records.specs.Records.{isSweep}
+use Rattle.records.specs.Records.{isSweep, txnCount}
 use Rattle.book.specs.Lines.{Line, hasCommit, hasEnd, filtered, pagesAfter}
 
 -- where the book stands: a store that is open; a cut whose reopening is not accepted yet; a reopening with k pages stored
@@ -14,6 +14,7 @@ pub data Stage : Type 0 where
   awaiting : Stage
   storing : ℕ → Stage
 
+-- 'It .. is fed the calls, whether each was accepted, the cuts, and the slots that each pass step clears'
 pub record Book : Type 0 where
   -- newest first; the oldest `stable` of them are stable
   pub lines : List Line
@@ -31,7 +32,7 @@ blank = record { lines = []; stable = 0; begun = 0; running = λ t. 0; known = �
 
 -- own transaction i runs
 unfoldable pub runs : Book → ℕ → Bool
-runs b i = not (eqb i 0) && any (λ t. eqb (b .running t) i) 16
+runs b i = not (eqb i 0) && any (λ t. eqb (b .running t) i) txnCount
 
 -- 'the sweeps and the lines left of transactions with kind 4, stable or not'
 abbrev pub countsCommitted : Book → Line → Bool
@@ -41,9 +42,11 @@ countsCommitted b l = isSweep (l .entry) || (not (l .struck) && hasCommit (l .ow
 abbrev pub countsFull : Book → Line → Bool
 countsFull b l = countsCommitted b l || (not (l .struck) && runs b (l .owner))
 
+-- 'the sweeps and the lines left of transactions with kind 4, stable or not'
 unfoldable pub committedLines : Book → List Line
 committedLines b = filtered (countsCommitted b) (b .lines)
 
+-- 'the full pages count running ones' lines too'
 unfoldable pub fullLines : Book → List Line
 fullLines b = filtered (countsFull b) (b .lines)
 
@@ -51,6 +54,7 @@ fullLines b = filtered (countsFull b) (b .lines)
 abbrev pub committedPages : ℕ → Book → List ℕ
 committedPages n b = pagesAfter n (committedLines b)
 
+-- 'the full pages'
 abbrev pub fullPages : ℕ → Book → List ℕ
 fullPages n b = pagesAfter n (fullLines b)
 

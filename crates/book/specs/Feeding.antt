@@ -69,6 +69,7 @@ stepped n opened = opened
 stepped n awaiting = awaiting
 stepped n (storing k) = if (ltb k n) (storing (k + 1)) opened
 
+-- the book at another stage of a reopening
 abbrev pub atStage : Book → Stage → Book
 atStage b g = record { lines = b .lines; stable = b .stable; begun = b .begun; running = b .running; known = b .known; stage = g }
 

@@ -16,9 +16,11 @@ pub record Line : Type 0 where
   pub owner : ℕ
   pub struck : Bool
 
+-- a line of transaction i, not struck out
 abbrev pub line : Record → ℕ → Line
 line r i = record { entry = r; owner = i; struck = false }
 
+-- 'strikes out'
 abbrev pub struckOut : Line → Line
 struckOut l = record { entry = l .entry; owner = l .owner; struck = true }
 
@@ -52,6 +54,7 @@ unfoldable pub hasCommit : ℕ → List Line → Bool
 hasCommit i [] = false
 hasCommit i (l ∷ ls) = (eqb (l .entry .kind) 4 && eqb (l .owner) i) || hasCommit i ls
 
+-- transaction i has a line of 'kind 4 or 5'
 unfoldable pub hasEnd : ℕ → List Line → Bool
 hasEnd i [] = false
 hasEnd i (l ∷ ls) = (isEnd (l .entry) && eqb (l .owner) i) || hasEnd i ls

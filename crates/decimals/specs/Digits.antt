@@ -7,9 +7,11 @@ base = 10
 
 -- the bytes '0' and '9'
 
+-- the byte of digit 0
 abbrev pub digitZero : ℕ
 digitZero = 48
 
+-- the byte of digit 9
 abbrev pub digitNine : ℕ
 digitNine = 57
 

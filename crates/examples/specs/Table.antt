@@ -55,6 +55,7 @@ sameWords [] (y ∷ ys) = false
 sameWords (x ∷ xs) [] = false
 sameWords (x ∷ xs) (y ∷ ys) = let on = sameWords xs ys in eqb x y && on
 
+-- all six areas agree, word by word
 unfoldable pub sameAreas : Areas → Areas → Bool
 sameAreas a b =
     sameWords (a .stored) (b .stored) && sameWords (a .copies) (b .copies) && sameWords (a .received) (b .received)
@@ -69,14 +70,17 @@ pub data Row : Type 0 where
 unfoldable pub refusedBy : ℕ → Areas → Call → Bool
 refusedBy x s c = let o = perform s c in eqb (answerOf (o .answer)) x && eqb (valueOf (o .answer)) 0 && sameAreas (o .after) s
 
+-- after these calls, a call is refused with number k and keeps every word
 unfoldable pub refusedAfter : ℕ → Areas → List Call → Call → Bool
 refusedAfter x s [] c = refusedBy x s c
 refusedAfter x s (b ∷ bs) c = let o = perform s b in let on = refusedAfter x (o .after) bs c in accepted (o .answer) && on
 
+-- a row of the table is right
 unfoldable pub right : Row → Bool
 right (refusal x s bs c) = refusedAfter x s bs c
 right (bench input output) = sameWords (benchOutput input) output
 
+-- all rows are
 unfoldable pub allRight : List Row → Bool
 allRight [] = true
 allRight (r ∷ rs) = let on = allRight rs in right r && on

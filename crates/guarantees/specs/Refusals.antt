@@ -15,6 +15,7 @@ use Rattle.guarantees.specs.Points.{Always}
 abbrev pub Reopenable : Point → Type 0
 Reopenable q = accepts q reopen ≡ true
 
+-- at every point of every list, reopen is accepted
 abbrev pub NeverUnsound : Type 0
 NeverUnsound = Always Reopenable
 
@@ -23,6 +24,7 @@ pub record Endable (q : Point) : Type 0 where
   pub commits : (t : ℕ) → perform (q .store) (commit t) .answer ≡ Refused LogFull → ⊥
   pub aborts : (t : ℕ) → perform (q .store) (abort t) .answer ≡ Refused LogFull → ⊥
 
+-- at every point of every list, commit and abort have room
 abbrev pub RoomToEnd : Type 0
 RoomToEnd = Always Endable
 
@@ -50,5 +52,6 @@ ownFits (look q) = q .own
 abbrev pub WellFormed : Point → Type 0
 WellFormed q = (c : Call) → ownFits c ≡ true → perform (q .store) c .answer ≡ Refused Malformed → ⊥
 
+-- at every point of every list
 abbrev pub NeverMalformed : Type 0
 NeverMalformed = Always WellFormed

@@ -54,6 +54,7 @@ filling es =
 abbrev pub reopening : List Event
 reopening = power ∷ call reopen ∷ call restep ∷ power ∷ call reopen ∷ call restep ∷ call restep ∷ call restep ∷ []
 
+-- the whole list
 abbrev pub run : List Event
 run = freeing (filling reopening)
 

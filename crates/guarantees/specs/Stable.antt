@@ -29,5 +29,6 @@ pub record AtMostOne (s s′ : Areas) : Type 0 where
   pub store : OneStore s s′
   pub kept : (i : ℕ) → i < recordWords * stableCount s → at (s′ .log) i ≡ at (s .log) i
 
+-- 'Each call of demand 3 makes at most one stable store, whole or absent'
 abbrev pub OneStableStore : Type 0
 OneStableStore = (s : Areas) (c : Call) → AtMostOne s (perform s c .after)

@@ -5,9 +5,11 @@ use mathlib.Core.List.{List, [], _∷_, map}
 use Rattle.texts.specs.Text.{bytes}
 use Rattle.texts.specs.Lines.{linesOf}
 
+-- an input and its lines
 abbrev pub Input : Type 0
 Input = String × List String
 
+-- one such example
 abbrev pub input : String → List String → Input
 input s ls = (s, ls)
 

@@ -15,8 +15,10 @@ comma = 44
 
 -- CRLF, which ends a line
 
+-- 'lines end in CRLF': CR
 abbrev pub cr : ℕ
 cr = 13
 
+-- 'lines end in CRLF': LF
 abbrev pub lf : ℕ
 lf = 10
