@@ -204,7 +204,7 @@ module _ (n : ℕ) (some : 1 ≤ n) (s : Areas) (b : Book) (i : OpenInv n s b) (
   st = Calls.aborted (machine n s b) t (suc (length (b′ .lines)))
 
   shows : Shows w n st
-  shows = abort-shows (s .work) n (h .sized .work-len) (machine n s b) (machine-shows n s b) t (suc (length (b′ .lines))) (f .txn)
+  shows = abort-shows (s .work) n (h .sized .tables .1) (machine n s b) (machine-shows n s b) t (suc (length (b′ .lines))) (f .txn)
 
   collector-after : Collector.Inv (machine n s′ b′)
   collector-after = Collector.same st (machine n s′ b′) refl
@@ -234,18 +234,18 @@ module _ (n : ℕ) (some : 1 ≤ n) (s : Areas) (b : Book) (i : OpenInv n s b) (
   aborted-inv = record {
     size = rw (records .stored) (i .size);
     stage = i .stage;
-    word = end-word n s b i (h .sized .work-len) t (f .txn);
+    word = end-word n s b i (h .sized .tables .1) t (f .txn);
     collector = collector-after;
     book = abort-inv b (i .book) t run;
     sound = sound-after;
     full = full-ext n some b′ sound-after (a .received) (kept .logged .size) (kept .logged .small) (λ x. received-after x ∙ sym (mixed x .0));
-    known = end-known n s b i (h .sized .work-len) t (f .txn) b′ refl refl;
-    active = end-active n s b i (h .sized .work-len) t (f .txn) b′ refl refl;
-    runs = end-runs n s b i (h .sized .work-len) t (f .txn) b′ refl refl;
-    writers = end-writers n s b i (h .sized .work-len) t (f .txn) b′ refl refl (Openness.open-abort b (i .book) t run);
+    known = end-known n s b i (h .sized .tables .1) t (f .txn) b′ refl refl;
+    active = end-active n s b i (h .sized .tables .1) t (f .txn) b′ refl refl;
+    runs = end-runs n s b i (h .sized .tables .1) t (f .txn) b′ refl refl;
+    writers = end-writers n s b i (h .sized .tables .1) t (f .txn) b′ refl refl (Openness.open-abort b (i .book) t run);
     base = i .base;
     log = log-many n s b (i .base) (i .log) _ s′ b′ records inv-after
-        (λ u l. ap (λ (m : ℕ). bit m u) opens ∙ end-opens n s b i (h .sized .work-len) t (f .txn) (openIn (s .log) (receivedCount s)) (i .log .open-ones) u l)
+        (λ u l. ap (λ (m : ℕ). bit m u) opens ∙ end-opens n s b i (h .sized .tables .1) t (f .txn) (openIn (s .log) (receivedCount s)) (i .log .open-ones) u l)
         cells-after;
   }
 

@@ -81,7 +81,7 @@ module _ (n : ℕ) (some : 1 ≤ n) (s : Areas) (b : Book) (i : OpenInv n s b) (
   st = Calls.begun (machine n s b) t (suc (suc (length (b .lines))))
 
   shows : Shows w n st
-  shows = begin-shows (s .work) n (h .sized .work-len) (machine n s b) (machine-shows n s b) some t (suc (suc (length (b .lines)))) (f .txn)
+  shows = begin-shows (s .work) n (h .sized .tables .1) (machine n s b) (machine-shows n s b) some t (suc (suc (length (b .lines)))) (f .txn)
 
   collector-after : Collector.Inv (machine n s′ b′)
   unfolding appended

@@ -68,7 +68,7 @@ module _ (n : ℕ) (some : 1 ≤ n) (s : Areas) (b : Book) (i : OpenInv n s b) (
   st = Calls.committed (machine n s b) t (suc (suc (length (b .lines))))
 
   shows : Shows w n st
-  shows = commit-shows (s .work) n (h .sized .work-len) (machine n s b) (machine-shows n s b) t (suc (suc (length (b .lines)))) (f .txn)
+  shows = commit-shows (s .work) n (h .sized .tables .1) (machine n s b) (machine-shows n s b) t (suc (suc (length (b .lines)))) (f .txn)
 
   collector-after : Collector.Inv (machine n s′ b′)
   unfolding appended
@@ -89,7 +89,7 @@ module _ (n : ℕ) (some : 1 ≤ n) (s : Areas) (b : Book) (i : OpenInv n s b) (
     order = i .log .open-ones t (f .txn) ∙ act;
     still = refl;
     full = λ x. ap (λ (v : Seen). v .object) (full-same x);
-    opens = end-opens n s b i (h .sized .work-len) t (f .txn) _ (i .log .open-ones);
+    opens = end-opens n s b i (h .sized .tables .1) t (f .txn) _ (i .log .open-ones);
   }
 
   inv-after : Recovery.Inv (i .base) (logOf (λ x. seenFull b′ x .object) (λ x. seenCommitted b′ x .object) (locksOf w n .wr) (locksOf w n .act) (commitOf t ∷ received s))
@@ -106,15 +106,15 @@ module _ (n : ℕ) (some : 1 ≤ n) (s : Areas) (b : Book) (i : OpenInv n s b) (
   committed-inv = record {
     size = i .size;
     stage = i .stage;
-    word = end-word n s b i (h .sized .work-len) t (f .txn);
+    word = end-word n s b i (h .sized .tables .1) t (f .txn);
     collector = collector-after;
     book = commit-inv b (i .book) t run;
     sound = bound-sound n some s b i h _ _ w b′ bounding;
     full = bound-full n some s b i h _ _ w b′ bounding;
-    known = end-known n s b i (h .sized .work-len) t (f .txn) b′ refl refl;
-    active = end-active n s b i (h .sized .work-len) t (f .txn) b′ refl refl;
-    runs = end-runs n s b i (h .sized .work-len) t (f .txn) b′ refl refl;
-    writers = end-writers n s b i (h .sized .work-len) t (f .txn) b′ refl refl (Openness.open-commit b (i .book) t run);
+    known = end-known n s b i (h .sized .tables .1) t (f .txn) b′ refl refl;
+    active = end-active n s b i (h .sized .tables .1) t (f .txn) b′ refl refl;
+    runs = end-runs n s b i (h .sized .tables .1) t (f .txn) b′ refl refl;
+    writers = end-writers n s b i (h .sized .tables .1) t (f .txn) b′ refl refl (Openness.open-commit b (i .book) t run);
     base = i .base;
     log = bound-log n some s b i h _ _ w b′ bounding inv-after collector-after;
   }

@@ -79,7 +79,7 @@ module _ (n : ℕ) (some : 1 ≤ n) (s : Areas) (b : Book) (i : OpenInv n s b) (
 
   -- what t knows
   knows : (u x : ℕ) → tablesOf w n .kn u x ≡ add (tablesOf (s .work) n .kn) t o u x
-  knows u x = ap (λ (b : Tables). b .kn u x) (create-tables (s .work) n t o (f .object .low) (f .object .top) (h .sized .work-len) (f .txn))
+  knows u x = ap (λ (b : Tables). b .kn u x) (create-tables (s .work) n t o (f .object .low) (f .object .top) (h .sized .tables .1) (f .txn))
 
   known-after : (u x : ℕ) → learns (adds b t (createOf t o)) t (eqb o) .known u x ≡ true → tablesOf w n .kn u x ≡ true
   known-after u x q = knows u x ∙ by-bool (eqb u t)
@@ -94,7 +94,7 @@ module _ (n : ℕ) (some : 1 ≤ n) (s : Areas) (b : Book) (i : OpenInv n s b) (
   create-kept = let c = changing in let k = learns (adds b t (createOf t o)) t (eqb o) .known in
       open-change n some s b i h t (createOf t o) w c k
       (collector-after n some s b i h t (createOf t o) w c k (C.created (machine n s b) t o m)
-      (create-shows (s .work) n (h .sized .work-len) (machine n s b) (machine-shows n s b) t o (f .txn) (f .object .low) (f .object .top) m)
+      (create-shows (s .work) n (h .sized .tables .1) (machine n s b) (machine-shows n s b) t o (f .txn) (f .object .low) (f .object .top) m)
       machine-kept _ _ refl refl (λ x. created-at m t o x (seenFull b x)))
       (fed-inv n b (create t o) [] [] (i .book) (change-runs n some s b i h t (createOf t o) w c k))
       known-after

@@ -1,6 +1,6 @@
 -- The end of a transaction, by commit or abort: what the tables and the book then say of locks and knowledge. n is the number of pages.
 -- Assumes nothing.
-use Prim.Native.Nat.{ℕ, _+_, _*_, _<_}
+use Prim.Native.Nat.{ℕ, _+_, _*_, _<_, _≤_}
 use native.Mathlib.Omega.{arith}
 use mathlib.Core.Path.{_≡_, refl, sym, ap, _∙_}
 use mathlib.Core.Bool.{Bool, true, false, not, _&&_}
@@ -33,7 +33,7 @@ both-ways true false = refl
 both-ways false true = refl
 both-ways false false = refl
 
-module _ (n : ℕ) (s : Areas) (b : Book) (i : OpenInv n s b) (len : length (s .work) ≡ tableWords n) (t : ℕ) (small : t < txnCount) where
+module _ (n : ℕ) (s : Areas) (b : Book) (i : OpenInv n s b) (len : tableWords n ≤ length (s .work)) (t : ℕ) (small : t < txnCount) where
   abbrev w : List ℕ
   w = endedTables (s .work) n t
 

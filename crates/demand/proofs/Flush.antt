@@ -57,12 +57,12 @@ module _ (n : ℕ) (some : 1 ≤ n) (s : Areas) (b : Book) (i : OpenInv n s b) (
   unfolding flushed
   flush-kept = open-unlocked n s b i c (lose (s .work) (unflushedAt n p) t) (C.flushed (machine n s b) t p)
       (record {
-        shows = flush-shows (s .work) n (h .sized .work-len) (machine n s b) (machine-shows n s b) t p (f .page);
+        shows = flush-shows (s .work) n (h .sized .tables .1) (machine n s b) (machine-shows n s b) t p (f .page);
         keeps = keep-flush (machine n s b) t p (Facts.flush-facts s n (machine n s b) (machine-shows n s b) t p image f) (i .collector);
         pages = λ z. record { cmt = machine n s b .pages .cmt; rec = machine n s b .pages .rec; cop = λ x. sym (copies x) z };
         tags = refl;
         word = reopening-kept (flush-beside (s .work) n t p (f .page)) n (omega arith) .0;
-        knows = λ u x k. ap (λ (a : Tables). a .kn u x) (flush-tables (s .work) n t p (f .page) (h .sized .work-len)) ∙ k;
+        knows = λ u x k. ap (λ (a : Tables). a .kn u x) (flush-tables (s .work) n t p (f .page) (h .sized .tables .1)) ∙ k;
         cells = same-eq (received s) (view c) (mix here (λ y. seenFull b y .object) (view (s .copies))) (i .base) copies
             (same-mix (received s) here (λ y. seenFull b y .object) (view (s .copies)) (i .base) (full-cells n s b i) (i .log .copies));
       })

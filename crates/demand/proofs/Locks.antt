@@ -32,10 +32,10 @@ use Rattle.demand.proofs.Unlogged.{open-locked, open-beside}
 module _ (n : ℕ) (s : Areas) (b : Book) (i : OpenInv n s b) (h : Open s n) (t p : ℕ) where
   read-kept : Accepted.LockReadFacts s n t p → OpenInv n (withWork s (readLocked (s .work) n t p)) b
   read-kept f =
-      let e = lock-read-locks (s .work) n t p (f .page) (h .sized .work-len) (f .txn) in
+      let e = lock-read-locks (s .work) n t p (f .page) (h .sized .tables .1) (f .txn) in
       open-beside n s b i (s .copies) (readLocked (s .work) n t p) (C.readLocked (machine n s b) t p)
       (record {
-        shows = lock-read-shows (s .work) n (h .sized .work-len) (machine n s b) (machine-shows n s b) t p (f .txn) (f .page);
+        shows = lock-read-shows (s .work) n (h .sized .tables .1) (machine n s b) (machine-shows n s b) t p (f .txn) (f .page);
         keeps = keep-lockr (machine n s b) t p (Facts.lock-read-facts s n (machine n s b) (machine-shows n s b) t p f) (i .collector);
         pages = refl;
         tags = refl;
@@ -48,11 +48,11 @@ module _ (n : ℕ) (s : Areas) (b : Book) (i : OpenInv n s b) (h : Open s n) (t 
 
   write-kept : Accepted.LockWriteFacts s n t p → OpenInv n (withWork s (writeLocked (s .work) n t p)) b
   write-kept f =
-      let e = lock-write-locks (s .work) n t p (f .page) (h .sized .work-len) (f .txn) in
+      let e = lock-write-locks (s .work) n t p (f .page) (h .sized .tables .1) (f .txn) in
       let g = Facts.lock-write-facts s n (machine n s b) (machine-shows n s b) t p f in
       open-locked n s b i (s .copies) (writeLocked (s .work) n t p) (C.writeLocked (machine n s b) t p)
       (record {
-        shows = lock-write-shows (s .work) n (h .sized .work-len) (machine n s b) (machine-shows n s b) t p (f .txn) (f .page);
+        shows = lock-write-shows (s .work) n (h .sized .tables .1) (machine n s b) (machine-shows n s b) t p (f .txn) (f .page);
         keeps = keep-lockw (machine n s b) t p g (i .collector);
         pages = refl;
         tags = refl;

@@ -71,10 +71,10 @@ module _ (n : ℕ) (some : 1 ≤ n) (s : Areas) (b : Book) (i : OpenInv n s b) (
 
   start-kept : OpenInv n (withWork s (passStarted (s .work) n)) b
   start-kept =
-      let l = start-locks n (s .work) (h .sized .work-len) some in
-      let t = start-tables n (s .work) (h .sized .work-len) some in
+      let l = start-locks n (s .work) (h .sized .tables .1) some in
+      let t = start-tables n (s .work) (h .sized .tables .1) some in
       passing (passStarted (s .work) n) (C.started (machine n s b))
-      (record { count = refl; locks = sym l; tables = sym t; pass = sym (start-pass n (s .work) (h .sized .work-len) some (h .ranged .working .pruned)) })
+      (record { count = refl; locks = sym l; tables = sym t; pass = sym (start-pass n (s .work) (h .sized .tables .1) some (h .ranged .working .pruned)) })
       (keep-pass (machine n s b) (i .collector)) refl refl
       (start-beside (s .work) n .below reopeningAt (omega arith)) l (ap (λ (a : Tables). a .kn) t)
 
@@ -91,7 +91,7 @@ module _ (n : ℕ) (some : 1 ≤ n) (s : Areas) (b : Book) (i : OpenInv n s b) (
         let refs : (f : ℕ) → f < 4 → wordOf (s .copies) o f ≤ objectCount n = λ f l. reference (s .copies) n (h .ranged .copies-sound) o f (r .0) (r .1) l in
         let facts : MarkFacts (machine n s b) o = record { phase = phase; colour = lowest-grey (s .work) n g } in
         let room : at (s .work) stepsAt < stepsTop n = let k = steps-marking (machine n s b) o facts (i .collector) in omega arith in
-        let len = h .sized .work-len in
+        let len = h .sized .tables .1 in
         let l = scan-locks n (s .copies) (s .work) o refs len ok some room in
         let t = scan-tables n (s .copies) (s .work) o refs len ok some room in
         passing (withPass (scanned (s .copies) (s .work) n o) 1 (at (s .work) passPageAt) (stepsNext (s .work) n)) (C.marked (machine n s b) o)
@@ -106,7 +106,7 @@ module _ (n : ℕ) (some : 1 ≤ n) (s : Areas) (b : Book) (i : OpenInv n s b) (
         let w = s .work in
         let room : at w stepsAt < stepsTop n =
         let e = i .collector .counted .scanned phase in let k = countb-most (objectCount n) (λ x. isBlack (machine n s b .pass .col (suc x))) in omega arith in
-        let len = h .sized .work-len in
+        let len = h .sized .tables .1 in
         let l = moved-locks n w 2 0 (stepsNext w n) len in
         let t = moved-tables n w 2 0 (stepsNext w n) len in
         passing (withPass w 2 0 (stepsNext w n)) (C.turned (machine n s b))
@@ -132,7 +132,7 @@ module _ (n : ℕ) (some : 1 ≤ n) (s : Areas) (b : Book) (i : OpenInv n s b) (
     pub skip-kept : eqb (sweepMapOf s n) 0 ≡ true → OpenInv n (sweeping s n .after) b
     skip-kept z =
         let w = s .work in
-        let len = h .sized .work-len in
+        let len = h .sized .tables .1 in
         let l = on-locks n w len sweep-room phase in
         let t = on-tables n w len sweep-room phase in
         rw z (passing (advanced w n (at w passPageAt)) (C.advanced (machine n s b))

@@ -66,7 +66,7 @@ module _ (n : ℕ) (some : 1 ≤ n) (s : Areas) (b : Book) (i : OpenInv n s b) (
   -- what the tables know after it
   knows : (u x : ℕ) → tablesOf w n .kn u x ≡ C.readBy (machine n s b) t o .tables .kn u x
   knows u x = rw (full-shown n some s b i o)
-      (ap (λ (a : Tables). a .kn u x) (read-tables (s .received) (s .work) n t o (h .ranged .received-sound) (f .object .low) (f .object .top) (h .sized .work-len) (f .txn)))
+      (ap (λ (a : Tables). a .kn u x) (read-tables (s .received) (s .work) n t o (h .ranged .received-sound) (f .object .low) (f .object .top) (h .sized .tables .1) (f .txn)))
 
   -- a reference of the received object is an edge of the machine: what is known is occupied
   refers : (x : ℕ) → refersTo (s .received) o x ≡ true → points (seenFull b o .object) x ≡ true
@@ -81,7 +81,7 @@ module _ (n : ℕ) (some : 1 ≤ n) (s : Areas) (b : Book) (i : OpenInv n s b) (
   kept : OpenInv n (withWork s w) b
   kept = open-unlocked n s b i (s .copies) w (C.readBy (machine n s b) t o)
       (record {
-        shows = read-shows (s .work) n (h .sized .work-len) (machine n s b) (machine-shows n s b) t o (f .txn) (f .object .low) (f .object .top)
+        shows = read-shows (s .work) n (h .sized .tables .1) (machine n s b) (machine-shows n s b) t o (f .txn) (f .object .low) (f .object .top)
             (s .received) (h .ranged .received-sound) (full-shown n some s b i o);
         keeps = keep-read (machine n s b) t o facts (i .collector);
         pages = refl;

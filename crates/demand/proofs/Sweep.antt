@@ -137,17 +137,17 @@ module _ (n : ℕ) (some : 1 ≤ n) (s : Areas) (b : Book) (i : OpenInv n s b) (
 
   -- the collector's part
   locks : locksOf w n ≡ locksOf (s .work) n
-  locks = on-locks n (s .work) (h .sized .work-len) (sweep-room n some s b i h ph) ph
+  locks = on-locks n (s .work) (h .sized .tables .1) (sweep-room n some s b i h ph) ph
 
   tables : tablesOf w n ≡ tablesOf (s .work) n
-  tables = on-tables n (s .work) (h .sized .work-len) (sweep-room n some s b i h ph) ph
+  tables = on-tables n (s .work) (h .sized .tables .1) (sweep-room n some s b i h ph) ph
 
   machine-after : Collector.Inv (machine n s′ b′)
   unfolding sweptPage
   machine-after = Collector.same (C.swept (machine n s b) m) (machine n s′ b′) refl
       (λ z. record { cmt = λ x. committed-after x z .object; rec = λ x. full-after x z .object; cop = λ x. copies-after x z })
       (λ z. record { cmtTag = λ x. committed-after x z .tag; recTag = λ x. full-after x z .tag; now = suc m })
-      locks tables (on-pass n (s .work) (h .sized .work-len) (sweep-room n some s b i h ph) ph)
+      locks tables (on-pass n (s .work) (h .sized .tables .1) (sweep-room n some s b i h ph) ph)
       (keep-sweep (machine n s b) m (record { phase = ph; free = unwritten; line = omega arith }) (i .collector))
 
   act-same : (u : ℕ) → locksOf w n .act u ≡ locksOf (s .work) n .act u

@@ -81,14 +81,14 @@ module _ (n : ℕ) (some : 1 ≤ n) (s : Areas) (b : Book) (i : OpenInv n s b) (
   -- what is known stays known
   known-after : (u x : ℕ) → b .known u x ≡ true → tablesOf w n .kn u x ≡ true
   known-after u x q = ap (λ (b : Tables). b .kn u x)
-      (set-tables (s .received) (s .work) n t o f v (h .ranged .received-sound) (g .object .low) (g .object .top) (g .field) (h .sized .work-len) (g .txn)) ∙ i .known u x q
+      (set-tables (s .received) (s .work) n t o f v (h .ranged .received-sound) (g .object .low) (g .object .top) (g .field) (h .sized .tables .1) (g .txn)) ∙ i .known u x q
 
   set-kept : OpenInv n (wordSet s n t o f v) (adds b t r)
   unfolding wordSet
   set-kept = let c = changing in let run = change-runs n some s b i h t r w c (b .known) in
       open-change n some s b i h t r w c (b .known)
       (collector-after n some s b i h t r w c (b .known) (C.written (machine n s b) t o f v m)
-      (set-shows (s .work) n (h .sized .work-len) (machine n s b) (machine-shows n s b) t o (g .txn) (g .object .low) (g .object .top)
+      (set-shows (s .work) n (h .sized .tables .1) (machine n s b) (machine-shows n s b) t o (g .txn) (g .object .low) (g .object .top)
       (s .received) (h .ranged .received-sound) (full-shown n some s b i o) f v m (g .field))
       machine-kept _ _ refl refl (λ x. written-at m t o f (wordOf (s .received) o f) v x (seenFull b)))
       (adds-inv b (i .book) t r run refl refl (λ z. omega arith) (λ z. omega arith) refl)

@@ -47,7 +47,7 @@ module _ (w : List ℕ) (n t : ℕ) where
     pub begin-pass : passOf (knowsRoot active n t) n ≡ passOf w n
     begin-pass = pass-kept begin-beside n (inr (omega arith)) (inl (omega arith))
 
-    module _ (len : length w ≡ tableWords n) (small : t < txnCount) where
+    module _ (len : tableWords n ≤ length w) (small : t < txnCount) where
       pub begin-locks : locksOf (knowsRoot active n t) n ≡ record { act = λ u. locksOf w n .act u or eqb u t; rd = locksOf w n .rd; wr = locksOf w n .wr }
       begin-locks = locks-kept behind n (inr (omega arith)) ∙ locks-ext _ _ (active-gain w activeAt t (omega arith) small)
           (page-kept (beside-gain w activeAt t) n _ (inl (omega arith)))

@@ -32,7 +32,7 @@ coloured-on zero e = absurd (eqb-false 0 0 e refl)
 coloured-on (suc zero) e = refl
 coloured-on (suc (suc m)) e = refl
 
-module _ (w : List ℕ) (n x : ℕ) (low : 1 ≤ x) (top : x ≤ objectCount n) (len : length w ≡ tableWords n) where
+module _ (w : List ℕ) (n x : ℕ) (low : 1 ≤ x) (top : x ≤ objectCount n) (len : tableWords n ≤ length w) where
   elsewhere : (y : ℕ) → isObject n y ≡ true → eqb y x ≡ false → at (coloured w n x 1) (colourAt n y) ≡ at w (colourAt n y)
   elsewhere y l e = getD-set-other w (colourAt n x) (colourAt n y) 1 0 (λ z. eqb-false y x e (let k = object-range n y l .0 in omega arith))
 

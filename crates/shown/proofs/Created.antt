@@ -42,7 +42,7 @@ module _ (w : List ℕ) (n t o : ℕ) (low : 1 ≤ o) (top : o ≤ objectCount n
   pub create-pass : passOf (makes w n t o) n ≡ passOf w n
   create-pass = pass-kept create-beside n (inr (omega arith)) (inl (omega arith))
 
-  pub create-tables : length w ≡ tableWords n → t < txnCount → tablesOf (makes w n t o) n ≡ record {
+  pub create-tables : tableWords n ≤ length w → t < txnCount → tablesOf (makes w n t o) n ≡ record {
     kn = add (tablesOf w n .kn) t o;
     prt = tablesOf w n .prt;
     cot = add (tablesOf w n .cot) t o;

@@ -1,5 +1,5 @@
 -- The working tables once a transaction has ended, as the collector machine's: n is the number of pages. Assumes nothing.
-use Prim.Native.Nat.{ℕ, _+_, _*_, _<_}
+use Prim.Native.Nat.{ℕ, _+_, _*_, _<_, _≤_}
 use native.Mathlib.Omega.{arith}
 use mathlib.Core.Path.{_≡_, ap, _∙_, fun-ext}
 use mathlib.Core.Bool.{Bool, true, not}
@@ -95,7 +95,7 @@ module _ (w : List ℕ) (n t : ℕ) where
   runs6 : passRuns w6 ≡ passRuns w
   runs6 = ap (λ (k : ℕ). not (eqb k 0)) (six .below phaseAt (omega arith))
 
-  module _ (len : length w ≡ tableWords n) where
+  module _ (len : tableWords n ≤ length w) where
     inactive : at w7 activeAt ≡ withoutBit (at w activeAt) t
     inactive = from1 .below activeAt (omega arith) ∙ getD-set-same w activeAt (withoutBit (at w activeAt) t) 0 (omega arith)
 

@@ -1,5 +1,5 @@
 -- The working tables after a flush, as the collector machine's: n is the number of pages. Assumes nothing.
-use Prim.Native.Nat.{ℕ, _+_, _*_, _<_}
+use Prim.Native.Nat.{ℕ, _+_, _*_, _<_, _≤_}
 use native.Mathlib.Omega.{arith}
 use mathlib.Core.Path.{_≡_}
 use mathlib.Core.List.{List}
@@ -22,7 +22,7 @@ module _ (w : List ℕ) (n t p : ℕ) (h : p < n) where
   pub flush-pass : passOf (lose w (unflushedAt n p) t) n ≡ passOf w n
   flush-pass = pass-kept flush-beside n (inr (omega arith)) (inl (omega arith))
 
-  pub flush-tables : length w ≡ tableWords n → tablesOf (lose w (unflushedAt n p) t) n ≡ record {
+  pub flush-tables : tableWords n ≤ length w → tablesOf (lose w (unflushedAt n p) t) n ≡ record {
     kn = tablesOf w n .kn;
     prt = tablesOf w n .prt;
     cot = tablesOf w n .cot;

@@ -90,7 +90,7 @@ module _ (a w : List ℕ) (n t o : ℕ) (sound : areaSound a n ≡ true) (low : 
   unfolding points Objects.fields
   named-points y = there (view a o .occ) _ _ (named-free y)
 
-  module _ (len : length w ≡ tableWords n) (small : t < txnCount) where
+  module _ (len : tableWords n ≤ length w) (small : t < txnCount) where
     -- a reference's word, and no other, names its object
     names : (f y : ℕ) → (isRef a o f && not (eqb (wordOf a o f) 0)) ≡ true → (Objects.isRef (view a o) f and eqb (view a o .word f) y) ≡ eqb y (wordOf a o f)
     unfolding Objects.isRef

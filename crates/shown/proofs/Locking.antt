@@ -1,5 +1,5 @@
 -- The working tables after a lock, as the collector machine's: n is the number of pages. Assumes nothing.
-use Prim.Native.Nat.{ℕ, _+_, _*_, _<_}
+use Prim.Native.Nat.{ℕ, _+_, _*_, _<_, _≤_}
 use native.Mathlib.Omega.{arith}
 use mathlib.Core.Path.{_≡_, refl, sym, ap, _∙_, fun-ext}
 use mathlib.Core.Bool.{Bool, true, false, not}
@@ -56,7 +56,7 @@ module _ (w : List ℕ) (n t p : ℕ) (h : p < n) where
   pub lock-read-pass : passOf (readLocked w n t p) n ≡ passOf w n
   lock-read-pass = pass-kept lock-read-beside n (inr (omega arith)) (inl (omega arith))
 
-  module _ (len : length w ≡ tableWords n) (small : t < txnCount) where
+  module _ (len : tableWords n ≤ length w) (small : t < txnCount) where
     pub lock-write-locks : locksOf (writeLocked w n t p) n ≡ record { act = locksOf w n .act; rd = remove (locksOf w n .rd) t p; wr = add (locksOf w n .wr) t p }
     unfolding writeLocked
     lock-write-locks = locks-ext _ _ (active-kept lock-write-beside n (inr (omega arith)))

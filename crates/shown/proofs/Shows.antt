@@ -31,7 +31,7 @@ pub record Shows (w : List ℕ) (n : ℕ) (s : St) : Type 0 where
   pub tables : s .tables ≡ tablesOf w n
   pub pass : s .pass ≡ passOf w n
 
-module _ (w : List ℕ) (n : ℕ) (len : length w ≡ tableWords n) (s : St) (e : Shows w n s) where
+module _ (w : List ℕ) (n : ℕ) (len : tableWords n ≤ length w) (s : St) (e : Shows w n s) where
   pub begin-shows : 1 ≤ n → (t m : ℕ) → t < txnCount → Shows (knowsRoot (gain w activeAt t) n t) n (Calls.begun s t m)
   begin-shows some t m small = record {
     count = e .count;

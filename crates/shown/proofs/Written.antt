@@ -29,6 +29,7 @@ use Rattle.shown.proofs.Colours.{grey-beside, grey-colour}
 use Rattle.views.proofs.Effects.{view-word}
 use Rattle.shown.proofs.Areas.{reference}
 use Rattle.records.specs.Records.{txnCount}
+use Rattle.words.specs.Spans.{room-kept}
 
 -- the machine's tables with more PRT entries, and with t's records of page p not flushed
 abbrev grown : Tables → (ℕ → ℕ → Bool) → Tables
@@ -55,7 +56,7 @@ module _ (w : List ℕ) (n t x : ℕ) (low : 1 ≤ x) (top : x ≤ objectCount n
   prune-beside : Beside (prunedAt n 1) (tableWords n) w (pruned w n t x)
   prune-beside = later (wider enters (omega arith) (omega arith)) (wider greys (omega arith) (omega arith))
 
-  module _ (len : length w ≡ tableWords n) where
+  module _ (len : tableWords n ≤ length w) where
     prune-tables : t < txnCount → tablesOf (pruned w n t x) n ≡ grown (tablesOf w n) (λ u y. eqb u t and eqb y x)
     prune-tables small = tables-kept greys n (inr (omega arith)) ∙ tables-ext _ _ (object-kept enters n _ (inr (omega arith)))
         (object-gain w n _ t x low top (omega arith) small)
@@ -67,7 +68,7 @@ module _ (w : List ℕ) (n t x : ℕ) (low : 1 ≤ x) (top : x ≤ objectCount n
     prune-colour : (y : ℕ) → colourAtObject (pruned w n t x) n y ≡ greyed (isMarking (phaseOf (at w phaseAt)) and eqb y x) (colourAtObject w n y)
     unfolding pruned greyed
     prune-colour y = rw (phase-marking (at w phaseAt)) (by-bool (Words.isMarking w)
-        (λ e. rw (e, true-and) (grey-colour entered n x low top (enters .same-length ∙ len) y
+        (λ e. rw (e, true-and) (grey-colour entered n x low top (room-kept (tableWords n) (enters .same-length) len) y
         ∙ ap (λ (c : ℕ → Colour). greyed (eqb y x) (c y)) (colours-kept enters n (inl (omega arith)))))
         (λ e. rw (e, false-and) (ap (λ (c : ℕ → Colour). c y) (colours-kept enters n (inl (omega arith))))))
 
@@ -126,7 +127,7 @@ module _ (a w : List ℕ) (n t o f v : ℕ) (sound : areaSound a n ≡ true) (lo
   takes-none : prunes a o f v ≡ false → (y : ℕ) → Calls.pruned (view a o) f v y ≡ false
   takes-none e y = takes y ∙ rw e (false-and (eqb y target))
 
-  module _ (len : length w ≡ tableWords n) (small : t < txnCount) where
+  module _ (len : tableWords n ≤ length w) (small : t < txnCount) where
     dirty-tables : tablesOf unflushed n ≡ dirtied (tablesOf w n) t (Objects.pageOf o)
     unfolding Objects.pageOf
     dirty-tables = tables-ext _ _ (object-kept dirties n _ (inl (omega arith)))
@@ -144,7 +145,7 @@ module _ (a w : List ℕ) (n t o f v : ℕ) (sound : areaSound a n ≡ true) (lo
     }
     set-tables = by-bool (prunes a o f v)
         (λ e. let r = target-range e in
-        rw e (prune-tables unflushed n t target (r .0) (r .1) (dirties .same-length ∙ len) small ∙ ap (λ (b : Tables). grown b (λ u y. eqb u t and eqb y target)) dirty-tables
+        rw e (prune-tables unflushed n t target (r .0) (r .1) (room-kept (tableWords n) (dirties .same-length) len) small ∙ ap (λ (b : Tables). grown b (λ u y. eqb u t and eqb y target)) dirty-tables
         ∙ ap (grown (dirtied (tablesOf w n) t (Objects.pageOf o))) (fun-ext (λ u. fun-ext (λ y. ap (λ (b : Bool). eqb u t and b) (takes-one e y))))))
         (λ e. rw e (dirty-tables ∙ grown-none (dirtied (tablesOf w n) t (Objects.pageOf o)) (λ u y. eqb u t and Calls.pruned (view a o) f v y)
         (λ u y. ap (λ (b : Bool). eqb u t and b) (takes-none e y) ∙ and-false (eqb u t))))
@@ -156,7 +157,7 @@ module _ (a w : List ℕ) (n t o f v : ℕ) (sound : areaSound a n ≡ true) (lo
     unfolding greyed
     set-colour y = by-bool (prunes a o f v)
         (λ e. let r = target-range e in
-        rw e (prune-colour unflushed n t target (r .0) (r .1) (dirties .same-length ∙ len) y
+        rw e (prune-colour unflushed n t target (r .0) (r .1) (room-kept (tableWords n) (dirties .same-length) len) y
         ∙ rw (takes-one e y, clean-colour y, dirties .below phaseAt (omega arith)) refl))
         (λ e. rw (e, takes-none e y, and-false) (clean-colour y))
 

@@ -23,6 +23,7 @@ use Rattle.views.specs.View.{view}
 use Rattle.shown.specs.Tables.{colourOf, colourAtObject, phaseOf, locksOf, tablesOf, passOf}
 use Rattle.page_laws.specs.Places.{object-range}
 use Rattle.shown_pass.proofs.Kept.{locks-kept, tables-kept, colour-kept, pass-other, pass-phase, pass-page, pass-steps}
+use Rattle.words.specs.Spans.{room-kept}
 
 -- the machine's greying, twice and not at all
 grey-twice : (a b : Bool) (c : Colour) → M.greyed a (M.greyed b c) ≡ M.greyed (a or b) c
@@ -45,7 +46,7 @@ marked-grey (suc (suc k)) h = refl
 colour-apart : (n x y : ℕ) → 1 ≤ x → 1 ≤ y → (x ≡ y → ⊥) → colourAt n x ≡ colourAt n y → ⊥
 colour-apart n x y hx hy d e = d (omega arith)
 
-module _ (n : ℕ) (w : List ℕ) (len : length w ≡ tableWords n) where
+module _ (n : ℕ) (w : List ℕ) (len : tableWords n ≤ length w) where
   -- one object's colour written
   pub coloured-view : (y c x : ℕ) → isObject n y ≡ true → colourAtObject (coloured w n y c) n x ≡ cond (eqb x y) (colourOf c) (colourAtObject w n x)
   unfolding colourAtObject
@@ -116,27 +117,27 @@ unfolding _or_
 or-none b = refl
 
 module _ (n : ℕ) (copies : List ℕ) (o : ℕ) (refs : (f : ℕ) → f < 4 → wordOf copies o f ≤ objectCount n) where
-  pub length-targets : (w : List ℕ) → length w ≡ tableWords n → (k : ℕ) → length (targetsGreyed copies w n o k) ≡ length w
+  pub length-targets : (w : List ℕ) → tableWords n ≤ length w → (k : ℕ) → length (targetsGreyed copies w n o k) ≡ length w
   unfolding targetsGreyed
   length-targets w len zero = refl
   length-targets w len (suc k) = by-bool (isRef copies o k)
-      (λ e. rw e (length-greyed n (targetsGreyed copies w n o k) (length-targets w len k ∙ len) (wordOf copies o k) ∙ length-targets w len k))
+      (λ e. rw e (length-greyed n (targetsGreyed copies w n o k) (room-kept (tableWords n) (length-targets w len k) len) (wordOf copies o k) ∙ length-targets w len k))
       (λ e. rw e (length-targets w len k))
 
-  pub targets-low : (w : List ℕ) → length w ≡ tableWords n → (k i : ℕ) → i < 6 + 51 * n → at (targetsGreyed copies w n o k) i ≡ at w i
+  pub targets-low : (w : List ℕ) → tableWords n ≤ length w → (k i : ℕ) → i < 6 + 51 * n → at (targetsGreyed copies w n o k) i ≡ at w i
   unfolding targetsGreyed
   targets-low w len zero i l = refl
   targets-low w len (suc k) i l = by-bool (isRef copies o k)
-      (λ e. rw e (greyed-low n (targetsGreyed copies w n o k) (length-targets w len k ∙ len) (wordOf copies o k) i l ∙ targets-low w len k i l))
+      (λ e. rw e (greyed-low n (targetsGreyed copies w n o k) (room-kept (tableWords n) (length-targets w len k) len) (wordOf copies o k) i l ∙ targets-low w len k i l))
       (λ e. rw e (targets-low w len k i l))
 
-  pub targets-view : (w : List ℕ) → length w ≡ tableWords n → (k x : ℕ)
+  pub targets-view : (w : List ℕ) → tableWords n ≤ length w → (k x : ℕ)
       → colourAtObject (targetsGreyed copies w n o k) n x ≡ M.greyed (hits copies o k x) (colourAtObject w n x)
   unfolding targetsGreyed isRefAt
   targets-view w len zero x = rw (hits-none copies o x) (sym (grey-none (colourAtObject w n x)))
   targets-view w len (suc k) x = by-bool (ltb k 4)
       (λ e. rw (e, hits-next copies o k x, e, true-and (not (eqb x 0) and eqb (wordOf copies o k) x))
-      (greyed-view n (targetsGreyed copies w n o k) (length-targets w len k ∙ len) (wordOf copies o k) x
+      (greyed-view n (targetsGreyed copies w n o k) (room-kept (tableWords n) (length-targets w len k) len) (wordOf copies o k) x
       ∙ rw (targets-view w len k x, target-test n x (wordOf copies o k) (refs k (ltb-true k 4 e))) (grey-twice (not (eqb x 0) and eqb (wordOf copies o k) x) (hits copies o k x) (colourAtObject w n x))))
       (λ e. rw (e, hits-next copies o k x, e, false-and (not (eqb x 0) and eqb (wordOf copies o k) x)) (targets-view w len k x ∙ rw (or-none (hits copies o k x)) refl))
 
@@ -162,13 +163,13 @@ points-view a o x l = rw (le-leb 1 o l) (assoc (occupied a o) (not (eqb x 0))
     assoc p q r s e = rw e (and-nested p q s)
 
 -- what a scan leaves of the words below the colours
-module _ (n : ℕ) (copies w : List ℕ) (o : ℕ) (refs : (f : ℕ) → f < 4 → wordOf copies o f ≤ objectCount n) (len : length w ≡ tableWords n) (ok : isObject n o ≡ true) where
+module _ (n : ℕ) (copies w : List ℕ) (o : ℕ) (refs : (f : ℕ) → f < 4 → wordOf copies o f ≤ objectCount n) (len : tableWords n ≤ length w) (ok : isObject n o ≡ true) where
   targets : List ℕ
   targets = if (occupied copies o) (targetsGreyed copies w n o 8) w
 
-  length-kept : length targets ≡ tableWords n
+  length-kept : tableWords n ≤ length targets
   unfolding targets
-  length-kept = by-bool (occupied copies o) (λ e. rw e (length-targets n copies o refs w len 8 ∙ len)) (λ e. rw e len)
+  length-kept = by-bool (occupied copies o) (λ e. rw e (room-kept (tableWords n) (length-targets n copies o refs w len 8) len)) (λ e. rw e len)
 
   low-kept : (i : ℕ) → i < 6 + 51 * n → at targets i ≡ at w i
   unfolding targets
@@ -180,9 +181,9 @@ module _ (n : ℕ) (copies w : List ℕ) (o : ℕ) (refs : (f : ℕ) → f < 4 �
       (λ e. rw (e, true-and (hits copies o 8 x)) (targets-view n copies o refs w len 8 x))
       (λ e. rw (e, false-and (hits copies o 8 x)) (sym (grey-none (colourAtObject w n x)))))
 
-  pub length-scanned : length (scanned copies w n o) ≡ tableWords n
+  pub length-scanned : tableWords n ≤ length (scanned copies w n o)
   unfolding scanned targets
-  length-scanned = length-set targets (colourAt n o) 2 ∙ length-kept
+  length-scanned = room-kept (tableWords n) (length-set targets (colourAt n o) 2) length-kept
 
   pub scanned-low : (i : ℕ) → i < 6 + 51 * n → at (scanned copies w n o) i ≡ at w i
   unfolding scanned targets
@@ -196,7 +197,7 @@ module _ (n : ℕ) (copies w : List ℕ) (o : ℕ) (refs : (f : ℕ) → f < 4 �
 pub steps-suc : (w : List ℕ) (n : ℕ) → at w stepsAt < stepsTop n → stepsNext w n ≡ suc (at w stepsAt)
 steps-suc w n l = let k : at w stepsAt + 1 ≤ stepsTop n = omega arith in omega arith
 
-module _ (n : ℕ) (copies w : List ℕ) (o : ℕ) (refs : (f : ℕ) → f < 4 → wordOf copies o f ≤ objectCount n) (len : length w ≡ tableWords n) (ok : isObject n o ≡ true)
+module _ (n : ℕ) (copies w : List ℕ) (o : ℕ) (refs : (f : ℕ) → f < 4 → wordOf copies o f ≤ objectCount n) (len : tableWords n ≤ length w) (ok : isObject n o ≡ true)
     (low : 1 ≤ n) (room : at w stepsAt < stepsTop n) where
   abbrev pub scan : List ℕ
   scan = withPass (scanned copies w n o) 1 (at w passPageAt) (stepsNext w n)
@@ -233,7 +234,7 @@ module _ (n : ℕ) (copies w : List ℕ) (o : ℕ) (refs : (f : ℕ) → f < 4 �
   }
 
 -- a change of the pass record alone
-module _ (n : ℕ) (w : List ℕ) (phase page steps : ℕ) (len : length w ≡ tableWords n) where
+module _ (n : ℕ) (w : List ℕ) (phase page steps : ℕ) (len : tableWords n ≤ length w) where
   abbrev pub moved : List ℕ
   moved = withPass w phase page steps
 

@@ -9,7 +9,7 @@ use lib.Dec.{ltb, eqb}
 use borrow.Author.Tests.{ltb-true, eqb-true, le-leb}
 use Rattle.words.specs.Tests.{if, by-bool, clash}
 use Rattle.words.specs.Bits.{withoutBit, without-same}
-use Rattle.words.specs.Spans.{over, fill, length-over, length-fill, over-inside, over-outside, fill-inside, fill-outside}
+use Rattle.words.specs.Spans.{over, fill, length-over, length-fill, over-inside, over-outside, fill-inside, fill-outside, room-kept}
 use Rattle.pages.specs.Geometry.{isObject, root, objectCount}
 use Rattle.areas.specs.Layout.{prunedAt, createdAt, colourAt, knownAt, unflushedAt, tableWords}
 use Rattle.areas.specs.Tables.{at, has, flag}
@@ -25,17 +25,17 @@ use Rattle.shown_pass.proofs.Masks.{unflagged-bit, unflagged-anyb, some
 use Rattle.shown_pass.proofs.Mark.{moved-locks, moved-tables, moved-pass}
 use Rattle.records.specs.Records.{txnCount}
 
-module _ (n : ℕ) (w : List ℕ) (len : length w ≡ tableWords n) (low : 1 ≤ n) where
+module _ (n : ℕ) (w : List ℕ) (len : tableWords n ≤ length w) (low : 1 ≤ n) where
   prunes : List ℕ
   prunes = over (λ m. withoutBit m flag) w (prunedAt n 1) (objectCount n)
 
-  length-prunes : length prunes ≡ tableWords n
+  length-prunes : tableWords n ≤ length prunes
   unfolding prunes
-  length-prunes = length-over (λ m. withoutBit m flag) w (prunedAt n 1) (objectCount n) ∙ len
+  length-prunes = room-kept (tableWords n) (length-over (λ m. withoutBit m flag) w (prunedAt n 1) (objectCount n)) len
 
-  length-unflagged : length (unflagged w n) ≡ tableWords n
+  length-unflagged : tableWords n ≤ length (unflagged w n)
   unfolding unflagged prunes
-  length-unflagged = length-over (λ m. withoutBit m flag) prunes (createdAt n 1) (objectCount n) ∙ length-prunes
+  length-unflagged = room-kept (tableWords n) (length-over (λ m. withoutBit m flag) prunes (createdAt n 1) (objectCount n)) length-prunes
 
   -- words outside the PRT and the COT
   unflagged-outside : (i : ℕ) → (6 + 19 * n ≤ i → i < 6 + 51 * n → ⊥) → at (unflagged w n) i ≡ at w i
@@ -58,9 +58,9 @@ module _ (n : ℕ) (w : List ℕ) (len : length w ≡ tableWords n) (low : 1 ≤
   coloursSet : List ℕ
   coloursSet = fill (λ k. firstColour (unflagged w n) n (k + 1)) (unflagged w n) (colourAt n 1) (objectCount n)
 
-  length-colours : length coloursSet ≡ tableWords n
+  length-colours : tableWords n ≤ length coloursSet
   unfolding coloursSet
-  length-colours = length-fill (λ k. firstColour (unflagged w n) n (k + 1)) (unflagged w n) (colourAt n 1) (objectCount n) ∙ length-unflagged
+  length-colours = room-kept (tableWords n) (length-fill (λ k. firstColour (unflagged w n) n (k + 1)) (unflagged w n) (colourAt n 1) (objectCount n)) length-unflagged
 
   colours-low : (i : ℕ) → i < 6 + 51 * n → at coloursSet i ≡ at (unflagged w n) i
   unfolding coloursSet

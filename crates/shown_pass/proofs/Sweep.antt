@@ -94,7 +94,7 @@ module _ (n : ℕ) (copies w : List ℕ) (created : (x : ℕ) → 1 ≤ x → x 
       ∙ rw (deadAt-is lc p (suc k) hp, le-leb 1 (suc k) (omega arith), and-true (eqb p (pageOf (suc k)) && bit (sweepMap copies w n p) (slotOf (suc k)))) (if-cond (eqb p (pageOf (suc k)) && bit (sweepMap copies w n p) (slotOf (suc k))) blank (view a (suc k)))
 
 -- the pass record after the page
-module _ (n : ℕ) (w : List ℕ) (len : length w ≡ tableWords n) (room : at w stepsAt < stepsTop n ⊎ (at w passPageAt + 1 < n → ⊥)) (sweeps : phaseOf (at w 2) ≡ M.sweeping) where
+module _ (n : ℕ) (w : List ℕ) (len : tableWords n ≤ length w) (room : at w stepsAt < stepsTop n ⊎ (at w passPageAt + 1 < n → ⊥)) (sweeps : phaseOf (at w 2) ≡ M.sweeping) where
   pub on-locks : locksOf (advanced w n (at w passPageAt)) n ≡ locksOf w n
   unfolding advanced
   on-locks = by-bool (ltb (at w passPageAt + 1) n) (λ e. rw e (moved-locks n w 2 (at w passPageAt + 1) (stepsNext w n) len)) (λ e. rw e (moved-locks n w 0 0 0 len))
