@@ -5,21 +5,9 @@ use Rattle.api.specs.Codes.{coded}
 use Rattle.api.proofs.kophdaen_flush.Statement.{statement}
 use Rattle.api.proofs.kophdaen_flush.Tie as tie
 
-flush-requires : tie.Need-flush-requires
-flush-requires c κs = search needs
-
-code-requires : tie.Need-code-requires
-code-requires c κs = search needs
-
-same-length : tie.Need-same-length
-same-length c = search needs
-
-same-length-2 : tie.Need-same-length-2
-same-length-2 c = search needs
-
 returns : tie.Need-returns
 returns c = let e = c .before .before .before .before .before .flush .ensures in (c .code .ensures ∙ ap (λ (o : Out). coded (o .answer)) e, ap (λ (o : Out). o .after) e)
 
 pub kophdaen-flush-spec : {M : Type 1} → statement M
 kophdaen-flush-spec =
-    tie.close (tie.spec flush-requires code-requires same-length same-length-2 returns)
+    tie.close (tie.spec (λ c κs. search needs) (λ c κs. search needs) (λ c. search needs) (λ c. search needs) returns)

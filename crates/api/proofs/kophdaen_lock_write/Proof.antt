@@ -5,18 +5,9 @@ use Rattle.api.specs.Codes.{coded}
 use Rattle.api.proofs.kophdaen_lock_write.Statement.{statement}
 use Rattle.api.proofs.kophdaen_lock_write.Tie as tie
 
-lock-write-requires : tie.Need-lock-write-requires
-lock-write-requires c κs = search needs
-
-code-requires : tie.Need-code-requires
-code-requires c κs = search needs
-
-same-length : tie.Need-same-length
-same-length c = search needs
-
 returns : tie.Need-returns
 returns c = let e = c .before .before .before .lock-write .ensures in (c .code .ensures ∙ ap (λ (o : Out). coded (o .answer)) e, ap (λ (o : Out). o .after) e)
 
 pub kophdaen-lock-write-spec : {M : Type 1} → statement M
 kophdaen-lock-write-spec =
-    tie.close (tie.spec lock-write-requires code-requires same-length returns)
+    tie.close (tie.spec (λ c κs. search needs) (λ c κs. search needs) (λ c. search needs) returns)

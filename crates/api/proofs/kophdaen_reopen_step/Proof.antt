@@ -5,25 +5,10 @@ use Rattle.api.specs.Codes.{coded}
 use Rattle.api.proofs.kophdaen_reopen_step.Statement.{statement}
 use Rattle.api.proofs.kophdaen_reopen_step.Tie as tie
 
-restep-requires : tie.Need-restep-requires
-restep-requires c κs = search needs
-
-code-requires : tie.Need-code-requires
-code-requires c κs = search needs
-
-same-length : tie.Need-same-length
-same-length c = search needs
-
-same-length-2 : tie.Need-same-length-2
-same-length-2 c = search needs
-
-same-length-3 : tie.Need-same-length-3
-same-length-3 c = search needs
-
 returns : tie.Need-returns
 returns c = let e = c .before .before .before .before .before .before .before .restep .ensures in (c .code .ensures ∙ ap (λ (o : Out). coded (o .answer)) e, ap (λ (o : Out). o .after) e)
 
 pub kophdaen-reopen-step-spec : {M : Type 1} → statement M
 kophdaen-reopen-step-spec =
     tie.close
-    (tie.spec restep-requires code-requires same-length same-length-2 same-length-3 returns)
+    (tie.spec (λ c κs. search needs) (λ c κs. search needs) (λ c. search needs) (λ c. search needs) (λ c. search needs) returns)

@@ -5,18 +5,9 @@ use Rattle.api.specs.Codes.{coded}
 use Rattle.api.proofs.kophdaen_start_pass.Statement.{statement}
 use Rattle.api.proofs.kophdaen_start_pass.Tie as tie
 
-start-pass-requires : tie.Need-start-pass-requires
-start-pass-requires c κs = search needs
-
-code-requires : tie.Need-code-requires
-code-requires c κs = search needs
-
-same-length : tie.Need-same-length
-same-length c = search needs
-
 returns : tie.Need-returns
 returns c = let e = c .before .before .before .start-pass .ensures in (c .code .ensures ∙ ap (λ (o : Out). coded (o .answer)) e, ap (λ (o : Out). o .after) e)
 
 pub kophdaen-start-pass-spec : {M : Type 1} → statement M
 kophdaen-start-pass-spec =
-    tie.close (tie.spec start-pass-requires code-requires same-length returns)
+    tie.close (tie.spec (λ c κs. search needs) (λ c κs. search needs) (λ c. search needs) returns)

@@ -7,32 +7,17 @@ use borrow.Author.Needs.{needs}
 use Rattle.entry.proofs.in_range.Statement.{statement}
 use Rattle.entry.proofs.in_range.Tie as tie
 
-counts-in-range-requires : tie.Need-counts-in-range-requires
-counts-in-range-requires c κs = search needs
-
 returns : tie.Need-returns
 returns c = range-stops _ _ _ _ _ _ _ (sym (c .before .counts-in-range .ensures) ∙ not-true _ (c .if1 .taken))
-
-work-in-range-requires : tie.Need-work-in-range-requires
-work-in-range-requires c κs = search needs
 
 returns-2 : tie.Need-returns-2
 returns-2 c = work-stops _ _ _ _ _ _ _ (sym (c .before .before .before .counts-in-range .ensures) ∙ not-false _ (c .before .before .if1 .left)) (sym (c .before .work-in-range .ensures) ∙ not-true _ (c .if2 .taken))
 
-area-sound-requires : tie.Need-area-sound-requires
-area-sound-requires c κs = search needs
-
 returns-3 : tie.Need-returns-3
 returns-3 c = received-stops _ _ _ _ _ _ _ (sym (c .before .before .before .before .before .counts-in-range .ensures) ∙ not-false _ (c .before .before .before .before .if1 .left)) (sym (c .before .before .before .work-in-range .ensures) ∙ not-false _ (c .before .before .if2 .left)) (sym (c .before .area-sound .ensures) ∙ not-true _ (c .if3 .taken))
 
-area-sound-requires-2 : tie.Need-area-sound-requires-2
-area-sound-requires-2 c κs = search needs
-
 returns-4 : tie.Need-returns-4
 returns-4 c = copies-stop _ _ _ _ _ _ _ (sym (c .before .before .before .before .before .before .before .counts-in-range .ensures) ∙ not-false _ (c .before .before .before .before .before .before .if1 .left)) (sym (c .before .before .before .before .before .work-in-range .ensures) ∙ not-false _ (c .before .before .before .before .if2 .left)) (sym (c .before .before .before .area-sound .ensures) ∙ not-false _ (c .before .before .if3 .left)) (sym (c .before .area-sound2 .ensures) ∙ not-true _ (c .if4 .taken))
-
-shared-slice-read-records-sound : tie.Need-shared-slice-read-records-sound
-shared-slice-read-records-sound c = search needs
 
 cast-records-sound : tie.Need-cast-records-sound
 cast-records-sound c = omega (arith, c .shared-slice-known6 .given 0)
@@ -47,15 +32,15 @@ pub in-range-spec : {M : Type 1} → statement M
 in-range-spec =
     tie.close
     (tie.spec
-    counts-in-range-requires
+    (λ c κs. search needs)
     returns
-    work-in-range-requires
+    (λ c κs. search needs)
     returns-2
-    area-sound-requires
+    (λ c κs. search needs)
     returns-3
-    area-sound-requires-2
+    (λ c κs. search needs)
     returns-4
-    shared-slice-read-records-sound
+    (λ c. search needs)
     cast-records-sound
     records-sound-requires
     returns-5)

@@ -9,9 +9,6 @@ use borrow.Author.Needs.{needs}
 use Rattle.entry.proofs.well_formed.Statement.{statement}
 use Rattle.entry.proofs.well_formed.Tie as tie
 
-lengths-fit-requires : tie.Need-lengths-fit-requires
-lengths-fit-requires c κs = search needs
-
 returns : tie.Need-returns
 returns c = formed-unfit _ _ (c .before .lengths-fit .ensures) (not-true _ (c .if1 .taken))
 
@@ -31,7 +28,7 @@ pub well-formed-spec : {M : Type 1} → statement M
 well-formed-spec =
     tie.close
     (tie.spec
-    lengths-fit-requires
+    (λ c κs. search needs)
     returns
     shared-slice-read-if2
     returns-2

@@ -19,12 +19,6 @@ returns-2 c = lock-inactive _ _ _ _ _ (not-false _ (c .before .before .if1 .left
 way-to-requires : tie.Need-way-to-requires
 way-to-requires c κs = let h = page-range (c .before .before .before .before .args .n) (c .before .before .before .before .args .t) (c .before .before .before .before .args .p) (not-false _ (c .before .before .if1 .left)) in omega arith
 
-enum-told : tie.Need-enum-told
-enum-told c = search needs
-
-enum-told-2 : tie.Need-enum-told-2
-enum-told-2 c = search needs
-
 returns-3 : tie.Need-returns-3
 returns-3 c = ap answerTo (sym (c .enum-told .given .1)) ∙ lock-answer _ _ _ _ _ (not-false _ (c .before .before .before .before .before .if1 .left)) (sym (c .before .before .before .before .has .ensures) ∙ not-false _ (c .before .before .before .if2 .left)) (c .before .before .way-to .ensures)
 
@@ -39,7 +33,7 @@ lock-check-spec =
     has-requires
     returns-2
     way-to-requires
-    enum-told
-    enum-told-2
+    (λ c. search needs)
+    (λ c. search needs)
     returns-3
     returns-4)

@@ -7,17 +7,8 @@ use borrow.Author.Needs.{needs}
 use Rattle.store_ops.proofs.tables.ended_entry.Statement.{statement}
 use Rattle.store_ops.proofs.tables.ended_entry.Tie as tie
 
-has-bit-requires : tie.Need-has-bit-requires
-has-bit-requires c κs = search needs
-
 returns : tie.Need-returns
 returns c = sym (if-f _ _ _ (sym (c .before .has-bit .ensures) ∙ not-true _ (c .if1 .taken)))
-
-without-bit-requires : tie.Need-without-bit-requires
-without-bit-requires c κs = search needs
-
-with-bit-requires : tie.Need-with-bit-requires
-with-bit-requires c κs = search needs
 
 returns-2 : tie.Need-returns-2
 returns-2 c = c .with-bit .ensures ∙ ap (λ (x : ℕ). withBit x 16) (c .before .before .without-bit .ensures) ∙ sym (if-t _ _ _ (sym (c .before .before .before .before .has-bit .ensures) ∙ not-false _ (c .before .before .before .if1 .left)) ∙ if-t _ _ _ (c .before .if2 .taken))
@@ -28,4 +19,4 @@ returns-3 c = c .before .without-bit .ensures ∙ sym (if-t _ _ _ (sym (c .befor
 pub ended-entry-spec : {M : Type 1} → statement M
 ended-entry-spec =
     tie.close
-    (tie.spec has-bit-requires returns without-bit-requires with-bit-requires returns-2 returns-3)
+    (tie.spec (λ c κs. search needs) returns (λ c κs. search needs) (λ c κs. search needs) returns-2 returns-3)

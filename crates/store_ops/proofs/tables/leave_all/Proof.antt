@@ -19,38 +19,8 @@ loop-holds : tie.Need-loop-holds Inv-loop μ-loop
 unfolding over
 loop-holds c = (omega arith, refl, refl)
 
-add-without-bit : tie.Need-add-without-bit Inv-loop μ-loop
-add-without-bit c = search needs
-
-mul-without-bit : tie.Need-mul-without-bit Inv-loop μ-loop
-mul-without-bit c = search needs
-
-slice-read-without-bit : tie.Need-slice-read-without-bit Inv-loop μ-loop
-slice-read-without-bit c = search needs
-
-without-bit-requires : tie.Need-without-bit-requires Inv-loop μ-loop
-without-bit-requires c κs = search needs
-
-add-w : tie.Need-add-w Inv-loop μ-loop
-add-w c = search needs
-
-mul-w : tie.Need-mul-w Inv-loop μ-loop
-mul-w c = search needs
-
-slice-write-w : tie.Need-slice-write-w Inv-loop μ-loop
-slice-write-w c = search needs
-
-add-j : tie.Need-add-j Inv-loop μ-loop
-add-j c = search needs
-
-loop-less : tie.Need-loop-less Inv-loop μ-loop
-loop-less c = search needs
-
 loop-again : tie.Need-loop-again Inv-loop μ-loop
 loop-again c = (omega arith, simp length-set (c .before .before .before .loop .inv .1), over-turn _ _ _ _ _ _ (c .before .before .before .loop .inv .2) (c .without-bit .ensures))
-
-same-length : tie.Need-same-length Inv-loop μ-loop
-same-length c = search needs
 
 returns : tie.Need-returns Inv-loop μ-loop
 returns c = let e : c .before .loop .j ≡ c .before .before .before .args .k = omega arith in rw e at (c .before .loop .inv .2)
@@ -62,15 +32,15 @@ leave-all-spec =
     Inv-loop
     μ-loop
     loop-holds
-    add-without-bit
-    mul-without-bit
-    slice-read-without-bit
-    without-bit-requires
-    add-w
-    mul-w
-    slice-write-w
-    add-j
-    loop-less
+    (λ c. search needs)
+    (λ c. search needs)
+    (λ c. search needs)
+    (λ c κs. search needs)
+    (λ c. search needs)
+    (λ c. search needs)
+    (λ c. search needs)
+    (λ c. search needs)
+    (λ c. search needs)
     loop-again
-    same-length
+    (λ c. search needs)
     returns)
