@@ -8,20 +8,22 @@ use native.Mathlib.Numerals.{add-one}
 use native.Mathlib.Omega.{arith}
 use borrow.Author.Tests.{lt-ltb, le-ltb}
 use Rattle.words.specs.Tests.{if, by-bool}
+use Rattle.pages.specs.Geometry.{pageWords}
 use Rattle.pages.specs.Objects.{copiedPage}
-use Rattle.records.specs.Records.{recordAt, recorded, abortedOf}
+use Rattle.records.specs.Records.{txnCount, recordAt, recorded, abortedOf}
 use Rattle.records.specs.Effects.{effect, undoing}
 use Rattle.records.specs.Changes.{changesLeft}
 use Rattle.record_laws.specs.RecordLaws.{begunIn, changes-le}
 use Rattle.areas.specs.declared.Refusal.the-variants.{OutOfRange, WrongState, LogFull}
 use Rattle.areas.specs.declared.Check.{Check}
-use Rattle.areas.specs.declared.Check.the-variants.{Pass, Refuse}
+use Rattle.areas.specs.declared.Check.the-variants.{Accept, Refuse}
 use Rattle.areas.specs.declared.Answer.the-variants.{Done}
-use Rattle.areas.specs.Answers.{need-holds, need-fails}
+use Rattle.areas.specs.Answers.{verdict, all-passed, need-holds, need-fails}
 use Rattle.areas.specs.Areas.{Areas, Out, areas, out, receivedCount, withCopies, withWork, appended}
+use Rattle.areas.specs.Layout.{HasTables}
 use Rattle.areas.specs.Tables.{isActive, canWrite}
 use Rattle.calls.specs.Room.{roomWithin}
-use Rattle.calls.specs.Transactions.{endedTables, changesOf, rolledBack, restored, abortCheck, aborted}
+use Rattle.calls.specs.Transactions.{endedTables, changesOf, rolledBack, restored, abortTests, aborted}
 use Rattle.acceptance.specs.Entered.{Open}
 use Rattle.acceptance.specs.Transactions.{abort-facts}
 use Rattle.store_ops.specs.Logs.{counted, open-kept}
@@ -32,29 +34,29 @@ unfolding changesLeft
 few-left w g c t = by-bool (begunIn g t c) (λ e. rw e (changes-le g t c)) (λ e. rw e (omega arith))
 
 -- the check, of the lists that it reads
-pub abort-as : (s c r g k w : List ℕ) (t : ℕ) {x : Check} → x ≡ abortCheck (areas [] [] [] g k w) t → x ≡ abortCheck (areas s c r g k w) t
-unfolding abortCheck
+pub abort-as : (s c r g k w : List ℕ) (t : ℕ) {x : Check} → x ≡ verdict (abortTests (areas [] [] [] g k w) t) → x ≡ verdict (abortTests (areas s c r g k w) t)
+unfolding abortTests
 abort-as s c r g k w t e = e
 
 module _ (s : Areas) (t : ℕ) where
-  pub abort-outside : 16 ≤ t → Refuse OutOfRange ≡ abortCheck s t
-  unfolding abortCheck
-  abort-outside h = need-fails _ _ _ (le-ltb t 16 h)
+  pub abort-outside : txnCount ≤ t → Refuse OutOfRange ≡ verdict (abortTests s t)
+  unfolding abortTests
+  abort-outside h = need-fails _ _ _ _ (le-ltb t txnCount h)
 
-  module _ (h : t < 16) where
-    pub abort-inactive : isActive (s .work) t ≡ false → Refuse WrongState ≡ abortCheck s t
-    unfolding abortCheck
-    abort-inactive a = need-fails _ _ _ a ∙ need-holds _ _ _ (lt-ltb t 16 h)
+  module _ (h : t < txnCount) where
+    pub abort-inactive : isActive (s .work) t ≡ false → Refuse WrongState ≡ verdict (abortTests s t)
+    unfolding abortTests
+    abort-inactive a = need-fails _ _ _ _ a ∙ need-holds _ _ _ _ (lt-ltb t txnCount h)
 
     -- left: what the code found
     module _ (a : isActive (s .work) t ≡ true) {left : ℕ} (e : left ≡ length (changesOf s t)) where
-      pub abort-passes : roomWithin s (left + 1) ≡ true → Pass ≡ abortCheck s t
-      unfolding abortCheck
-      abort-passes b = need-holds _ _ _ (ap (λ (x : ℕ). roomWithin s (x + 1)) (sym e) ∙ b) ∙ need-holds _ _ _ a ∙ need-holds _ _ _ (lt-ltb t 16 h)
+      pub abort-passes : roomWithin s (left + 1) ≡ true → Accept ≡ verdict (abortTests s t)
+      unfolding abortTests
+      abort-passes b = all-passed ∙ need-holds _ _ _ _ (ap (λ (x : ℕ). roomWithin s (x + 1)) (sym e) ∙ b) ∙ need-holds _ _ _ _ a ∙ need-holds _ _ _ _ (lt-ltb t txnCount h)
 
-      pub abort-full : roomWithin s (left + 1) ≡ false → Refuse LogFull ≡ abortCheck s t
-      unfolding abortCheck
-      abort-full b = need-fails _ _ _ (ap (λ (x : ℕ). roomWithin s (x + 1)) (sym e) ∙ b) ∙ need-holds _ _ _ a ∙ need-holds _ _ _ (lt-ltb t 16 h)
+      pub abort-full : roomWithin s (left + 1) ≡ false → Refuse LogFull ≡ verdict (abortTests s t)
+      unfolding abortTests
+      abort-full b = need-fails _ _ _ _ (ap (λ (x : ℕ). roomWithin s (x + 1)) (sym e) ∙ b) ∙ need-holds _ _ _ _ a ∙ need-holds _ _ _ _ (lt-ltb t txnCount h)
 
 pub few-found : (w g : List ℕ) (c t : ℕ) {left : ℕ} → left ≡ length (changesLeft w g c t) → left ≤ c
 few-found w g c t e = let h = few-left w g c t in omega arith
@@ -64,10 +66,10 @@ left-any : (w g : List ℕ) (c t : ℕ) → changesLeft w g c t ≡ changesLeft 
 unfolding changesLeft
 left-any w g c t = refl
 
--- what the code that makes the change needs of an abort whose check passed
-pub abort-ready : (s : Areas) (n t : ℕ) → Open s n → abortCheck s t ≡ Pass →
+-- what the code that makes the change needs of an abort whose tests passed
+pub abort-ready : (s : Areas) (n t : ℕ) → Open s n → verdict (abortTests s t) ≡ Accept →
     Undoable (s .received) (s .log) (s .counts) t
-    × ((length (s .work) ≡ 6 + 67 * n) × (length (s .received) ≡ 129 * n) × (length (s .copies) ≡ 129 * n) × (t < 32))
+    × (HasTables (s .work) n × (0 < n) × (pageWords * n ≤ length (s .received)) × (pageWords * n ≤ length (s .copies)) × (t < 32))
 abort-ready s n t o h =
     let f = abort-facts s t h in
     let z = o .sized in
@@ -75,12 +77,12 @@ abort-ready s n t o h =
     let r = f .room in (
       record {
         kept = open-kept s n o;
-        sound = (let m : length (s .received) / 129 ≡ n = omega arith in rw m (o .ranged .records-sound));
+        sound = (let m : length (s .received) / pageWords ≡ n = omega arith in rw m (o .ranged .records-sound));
         txn = f .txn;
         room = omega arith;
         top = z .log-top;
       },
-      (z .work-len, z .received-len, z .copies-len, omega arith),
+      (z .tables, omega arith, omega arith, omega arith, omega arith),
     )
 
 -- one more page restored

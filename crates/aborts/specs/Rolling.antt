@@ -8,15 +8,18 @@ use lib.Seq.{getD-set-same}
 use native.Mathlib.Omega.{arith}
 use Rattle.words.specs.Tests.{if, by-bool, if-t, if-f, and-l}
 use Rattle.records.specs.declared.Record.{Record}
-use Rattle.records.specs.Records.{recordAt, recorded, isBegin, isChange, abortedOf}
+use Rattle.pages.specs.Geometry.{pageWords}
+use Rattle.records.specs.Records.{recordWords, maxRecords, txnCount, recordAt, recorded, isBegin, isChange, abortedOf}
 use Rattle.records.specs.Effects.{effect, undoing}
 use Rattle.records.specs.Soundness.{recordSound, recordsSound}
 use Rattle.records.specs.Changes.{changesIn, changesLeft}
 use Rattle.record_laws.specs.RecordLaws.{Agree, begunIn, recorded-other, records-sound-at}
-use Rattle.areas.specs.Areas.{Areas, areas, appended}
+use Rattle.record_laws.specs.SoundRecords.{undoing-sound, aborted-sound}
+use Rattle.record_ops.specs.InRange.{sound-in-range}
+use Rattle.areas.specs.Areas.{Areas, countWords, areas, appended}
+use Rattle.areas.specs.Ranges.{recordsIn}
 use Rattle.calls.specs.Transactions.{rolledBack}
 use Rattle.store_ops.specs.Logs.{Kept, Fits}
-use Rattle.record_laws.specs.SoundRecords.{undoing-sound, aborted-sound}
 
 -- the areas once record r is undone, where it is a change of t
 abbrev pub undoneBy : Record → ℕ → Areas → Areas
@@ -25,10 +28,10 @@ undoneBy r t s = if (isChange r t) (appended s (undoing r)) s
 -- what the walk needs of the pages a, the log g and the counts k: sound records, and room for the undoing ones and one more
 pub record Undoable (a g k : List ℕ) (t : ℕ) : Type 0 where
   pub kept : Kept g k
-  pub sound : recordsSound (length a / 129) g (getD k 0 0) ≡ true
-  pub txn : t < 16
-  pub room : getD k 0 0 + length (changesLeft [] g (getD k 0 0) t) + 1 ≤ length g / 6
-  pub top : length g / 6 ≤ 4096
+  pub sound : recordsSound (length a / pageWords) g (getD k 0 0) ≡ true
+  pub txn : t < txnCount
+  pub room : getD k 0 0 + length (changesLeft [] g (getD k 0 0) t) + 1 ≤ recordsIn (length g)
+  pub top : recordsIn (length g) ≤ maxRecords
 
 -- the changes of t among the first i records of the log g with counts k
 unfoldable pub below : List ℕ → List ℕ → ℕ → ℕ → List ℕ
@@ -86,7 +89,7 @@ pub record Rolling (a₀ g₀ k₀ : List ℕ) (t : ℕ) (a g k : List ℕ) (i l
   pub remain : left ≡ length (below g₀ k₀ t i)
   pub pages-len : length a ≡ length a₀
   pub log-len : length g ≡ length g₀
-  pub two : length k ≡ 2
+  pub two : length k ≡ countWords
   pub since : getD k₀ 0 0 ≤ getD k 0 0
   pub count : getD k 0 0 + left ≡ getD k₀ 0 0 + length (below g₀ k₀ t (getD k₀ 0 0))
   pub before : Agree g g₀ (getD k₀ 0 0)
@@ -98,7 +101,7 @@ record Stepped (g k g′ k′ : List ℕ) (left left′ c : ℕ) : Type 0 where
   sum : getD k′ 0 0 + left′ ≡ getD k 0 0 + left
   kept : Agree g′ g c
 
-stepped : (r : Record) (t : ℕ) (a g k a′ g′ k′ : List ℕ) (left left′ c : ℕ) → length k ≡ 2 → c ≤ getD k 0 0 → 0 < left →
+stepped : (r : Record) (t : ℕ) (a g k a′ g′ k′ : List ℕ) (left left′ c : ℕ) → length k ≡ countWords → c ≤ getD k 0 0 → 0 < left →
     left′ ≡ if (isChange r t) (left - 1) left → areas [] [] a′ g′ k′ [] ≡ undoneBy r t (areas [] [] a g k []) → Stepped g k g′ k′ left left′ c
 unfolding appended
 stepped r t a g k a′ g′ k′ left left′ c two h some l e = by-bool (isChange r t)
@@ -136,7 +139,7 @@ module _ (a₀ g₀ k₀ : List ℕ) (t : ℕ) where
     pub rolling-some : 0 < i
     rolling-some = below-some g₀ k₀ t i down
 
-    pub rolling-inside : 6 * (i - 1) + 6 ≤ length g
+    pub rolling-inside : recordWords * (i - 1) + recordWords ≤ length g
     rolling-inside = let p = rolling-some in let q = s .upto in let l = s .log-len in let h = u .kept .inside in omega arith
 
     read : recordAt g (i - 1) ≡ recordAt g₀ (i - 1)
@@ -153,8 +156,8 @@ module _ (a₀ g₀ k₀ : List ℕ) (t : ℕ) where
         let n = s .count in
         let l = s .log-len in
         record {
-          sound = ap (λ (r : Record). recordSound (length a / 129) (undoing r)) read ∙ ap (λ (l : ℕ). recordSound (l / 129) (undoing (recordAt g₀ (i - 1)))) (s .pages-len)
-              ∙ undoing-sound (length a₀ / 129) (recordAt g₀ (i - 1)) (records-sound-at (length a₀ / 129) g₀ (getD k₀ 0 0) (i - 1) (u .sound) (omega arith)) (and-l _ _ ch);
+          in-range = sound-in-range a (undoing (recordAt g (i - 1))) (ap (λ (r : Record). recordSound (length a / pageWords) (undoing r)) read ∙ ap (λ (l : ℕ). recordSound (l / pageWords) (undoing (recordAt g₀ (i - 1)))) (s .pages-len)
+              ∙ undoing-sound (length a₀ / pageWords) (recordAt g₀ (i - 1)) (records-sound-at (length a₀ / pageWords) g₀ (getD k₀ 0 0) (i - 1) (u .sound) (omega arith)) (and-l _ _ ch));
           two = s .two;
           few = omega arith;
           inside = omega arith;
@@ -223,9 +226,9 @@ module _ (a g k : List ℕ) (t : ℕ) (a′ g′ k′ : List ℕ) where
   end-fits u la lg lk e =
       let r = u .room in
       let m = u .top in
-      record { sound = aborted-sound (length a′ / 129) t (u .txn); two = lk ∙ u .kept .two; few = omega arith; inside = omega arith }
+      record { in-range = sound-in-range a′ (abortedOf t) (aborted-sound (length a′ / pageWords) t (u .txn)); two = lk ∙ u .kept .two; few = omega arith; inside = omega arith }
 
-pub end-logged : (z : Areas) (r : Record) (a g k : List ℕ) (x : ℕ) (a′ g′ k′ : List ℕ) → length k ≡ 2 → areas [] [] a g k [] ≡ z →
+pub end-logged : (z : Areas) (r : Record) (a g k : List ℕ) (x : ℕ) (a′ g′ k′ : List ℕ) → length k ≡ countWords → areas [] [] a g k [] ≡ z →
     (x ≡ getD k 0 0 + 1) × (a′ ≡ effect a r) × (g′ ≡ recorded g (getD k 0 0) r) × (k′ ≡ set k 0 (getD k 0 0 + 1)) →
     (areas [] [] a′ g′ k′ [] ≡ appended z r) × (x ≡ getD k′ 0 0)
 unfolding appended

@@ -1,6 +1,7 @@
-// Abort: the undoing records, the restored copies, and the call.
+// What an abort tests and changes: the undoing records, and the restored copies.
 mod aborting;
 mod restoring;
 mod undoing;
 
-pub use aborting::abort;
+pub use aborting::abort_apply;
+pub use aborting::abort_check;

@@ -4,14 +4,14 @@ ghost use mathlib.Core.List.{[]};
 ghost use Prim.Native.Nat.{_+_, _*_, _-_, _<_, _≤_};
 ghost use lib.ListN.{length, getD};
 ghost use Rattle.words.specs.Tests.{if};
-ghost use Rattle.records.specs.Records.{recordAt, isChange, abortedOf};
+ghost use Rattle.records.specs.Records.{recordWords, recordAt, isChange, abortedOf};
 ghost use Rattle.records.specs.Effects as effects;
 ghost use Rattle.records.specs.Changes.{changesLeft};
 ghost use Rattle.areas.specs.Areas.{areas, appended};
 ghost use Rattle.calls.specs.Transactions.{rolledBack};
 ghost use Rattle.store_ops.specs.Logs.{Fits};
 ghost use Rattle.aborts.specs.Rolling.{undoneBy, Undoable};
-use records::Record;
+use areas::layout;
 
 // Appends what undoes record i where it is a change of t; answers how many changes are left.
 fn undo_at(
@@ -22,11 +22,11 @@ fn undo_at(
     t: u32,
     left: u32,
 ) -> u32
-    requires { ⌜ (6 * i + 6 ≤ length (now log)) × (0 < left) × (isChange (recordAt (now log) i) t ≡ true → Fits (now received) (now log) (now counts) (effects.undoing (recordAt (now log) i))) ⌝ }
+    requires { ⌜ (recordWords * i + recordWords ≤ length (now log)) × (0 < left) × (isChange (recordAt (now log) i) t ≡ true → Fits (now received) (now log) (now counts) (effects.undoing (recordAt (now log) i))) ⌝ }
     ensures { λ x. ⌜ (x ≡ if (isChange (recordAt (now (log .entry)) i) t) (left - 1) left) × (areas [] [] (now (received .exit)) (now (log .exit)) (now (counts .exit)) [] ≡ undoneBy (recordAt (now (log .entry)) i) t (areas [] [] (now (received .entry)) (now (log .entry)) (now (counts .entry)) [])) ⌝ }
 {
     let r = log_reader::record_at(log, i);
-    if ((r.kind == 2) | (r.kind == 3)) & (r.txn == t) {
+    if ((r.kind == records::CREATE) | (r.kind == records::SET)) & (r.txn == t) {
         let _ = store_ops::append(received, log, counts, record_ops::undoing(r));
         return left - 1;
     }
@@ -38,7 +38,7 @@ fn roll_back(received: &mut [u32], log: &mut [u32], counts: &mut [u32], t: u32)
     requires { ⌜ Undoable (now received) (now log) (now counts) t ⌝ }
     ensures { λ _. ⌜ (areas [] [] (now (received .exit)) (now (log .exit)) (now (counts .exit)) [] ≡ rolledBack (now (log .entry)) (changesLeft [] (now (log .entry)) (getD (now (counts .entry)) 0 0) t) (areas [] [] (now (received .entry)) (now (log .entry)) (now (counts .entry)) [])) × (getD (now (counts .exit)) 0 0 ≡ getD (now (counts .entry)) 0 0 + length (changesLeft [] (now (log .entry)) (getD (now (counts .entry)) 0 0) t)) ⌝ }
 {
-    let mut i = counts[0] as usize;
+    let mut i = counts[layout::RECEIVED] as usize;
     let mut left = record_ops::changes_left(log, i, t as usize);
     while 0 < left {
         i -= 1;
@@ -52,13 +52,5 @@ pub fn abort_log(received: &mut [u32], log: &mut [u32], counts: &mut [u32], t: u
     ensures { λ x. ⌜ (areas [] [] (now (received .exit)) (now (log .exit)) (now (counts .exit)) [] ≡ appended (rolledBack (now (log .entry)) (changesLeft [] (now (log .entry)) (getD (now (counts .entry)) 0 0) t) (areas [] [] (now (received .entry)) (now (log .entry)) (now (counts .entry)) [])) (abortedOf t)) × (x ≡ getD (now (counts .exit)) 0 0) ⌝ }
 {
     roll_back(received, log, counts, t);
-    let r = Record {
-        kind: 5,
-        txn: t,
-        object: 0,
-        field: 0,
-        old: 0,
-        new: 0,
-    };
-    store_ops::append(received, log, counts, r)
+    store_ops::append(received, log, counts, records::aborted_of(t))
 }

@@ -1,53 +1,52 @@
 -- Refusals 3, 4, 10 and 11 of begin and commit, of the lists that they read. Assumes nothing.
-use Prim.Native.Nat.{ℕ, _+_, _*_, _<_, _≤_}
+use Prim.Native.Nat.{ℕ, _<_, _≤_}
 use mathlib.Core.Path.{_≡_, ap, _∙_}
 use mathlib.Core.Bool.{true, false, not}
 use mathlib.Core.List.{List, []}
-use lib.ListN.{length}
 use native.Mathlib.Omega.{arith}
 use borrow.Author.Tests.{lt-ltb, le-ltb}
 use Rattle.words.specs.Tests.{all, all-out, all-end}
 use Rattle.areas.specs.declared.Refusal.the-variants.{OutOfRange, WrongState, Unflushed, LogFull}
 use Rattle.areas.specs.declared.Check.{Check}
-use Rattle.areas.specs.declared.Check.the-variants.{Pass, Refuse}
-use Rattle.areas.specs.Answers.{need-holds, need-fails}
+use Rattle.areas.specs.declared.Check.the-variants.{Accept, Refuse}
+use Rattle.areas.specs.Answers.{verdict, all-passed, need-holds, need-fails}
 use Rattle.areas.specs.Areas.{Areas, areas}
-use Rattle.areas.specs.Layout.{unflushedAt}
+use Rattle.areas.specs.Layout.{HasTables, unflushedAt}
 use Rattle.areas.specs.Tables.{has, isActive}
-use Rattle.records.specs.Records.{beginOf, commitOf}
-use Rattle.calls.specs.Room.{roomBeyond, roomWithin}
-use Rattle.calls.specs.Transactions.{allFlushed, beginCheck, commitCheck}
+use Rattle.records.specs.Records.{txnCount, beginOf, commitOf}
+use Rattle.calls.specs.Room.{changeRoom, roomBeyond, roomWithin}
+use Rattle.calls.specs.Transactions.{allFlushed, beginTests, commitTests}
 use Rattle.acceptance.specs.Entered.{Open}
 use Rattle.acceptance.specs.Transactions.{begin-facts, commit-facts}
 use Rattle.store_ops.specs.Logs.{Fits, open-fits}
 use Rattle.record_laws.specs.SoundRecords.{begin-sound, commit-sound}
 
 -- the lists that a check does not read
-pub begin-as : (s c r g k w : List ℕ) (t : ℕ) {x : Check} → x ≡ beginCheck (areas [] [] [] g k w) t → x ≡ beginCheck (areas s c r g k w) t
-unfolding beginCheck roomBeyond
+pub begin-as : (s c r g k w : List ℕ) (t : ℕ) {x : Check} → x ≡ verdict (beginTests (areas [] [] [] g k w) t) → x ≡ verdict (beginTests (areas s c r g k w) t)
+unfolding beginTests roomBeyond
 begin-as s c r g k w t e = e
 
-pub commit-as : (s c r g k w : List ℕ) (n t : ℕ) {x : Check} → x ≡ commitCheck (areas [] [] [] g k w) n t → x ≡ commitCheck (areas s c r g k w) n t
-unfolding commitCheck
+pub commit-as : (s c r g k w : List ℕ) (n t : ℕ) {x : Check} → x ≡ verdict (commitTests (areas [] [] [] g k w) n t) → x ≡ verdict (commitTests (areas s c r g k w) n t)
+unfolding commitTests
 commit-as s c r g k w n t e = e
 
 module _ (s : Areas) (t : ℕ) where
-  pub begin-outside : 16 ≤ t → Refuse OutOfRange ≡ beginCheck s t
-  unfolding beginCheck
-  begin-outside h = need-fails _ _ _ (le-ltb t 16 h)
+  pub begin-outside : txnCount ≤ t → Refuse OutOfRange ≡ verdict (beginTests s t)
+  unfolding beginTests
+  begin-outside h = need-fails _ _ _ _ (le-ltb t txnCount h)
 
-  pub begin-active : t < 16 → isActive (s .work) t ≡ true → Refuse WrongState ≡ beginCheck s t
-  unfolding beginCheck
-  begin-active h a = need-fails _ _ _ (ap not a) ∙ need-holds _ _ _ (lt-ltb t 16 h)
+  pub begin-active : t < txnCount → isActive (s .work) t ≡ true → Refuse WrongState ≡ verdict (beginTests s t)
+  unfolding beginTests
+  begin-active h a = need-fails _ _ _ _ (ap not a) ∙ need-holds _ _ _ _ (lt-ltb t txnCount h)
 
-  module _ (h : t < 16) (a : isActive (s .work) t ≡ false) where
-    pub begin-passes : roomBeyond s 2 ≡ true → Pass ≡ beginCheck s t
-    unfolding beginCheck
-    begin-passes b = need-holds _ _ _ b ∙ need-holds _ _ _ (ap not a) ∙ need-holds _ _ _ (lt-ltb t 16 h)
+  module _ (h : t < txnCount) (a : isActive (s .work) t ≡ false) where
+    pub begin-passes : roomBeyond s changeRoom ≡ true → Accept ≡ verdict (beginTests s t)
+    unfolding beginTests
+    begin-passes b = all-passed ∙ need-holds _ _ _ _ b ∙ need-holds _ _ _ _ (ap not a) ∙ need-holds _ _ _ _ (lt-ltb t txnCount h)
 
-    pub begin-full : roomBeyond s 2 ≡ false → Refuse LogFull ≡ beginCheck s t
-    unfolding beginCheck
-    begin-full b = need-fails _ _ _ b ∙ need-holds _ _ _ (ap not a) ∙ need-holds _ _ _ (lt-ltb t 16 h)
+    pub begin-full : roomBeyond s changeRoom ≡ false → Refuse LogFull ≡ verdict (beginTests s t)
+    unfolding beginTests
+    begin-full b = need-fails _ _ _ _ b ∙ need-holds _ _ _ _ (ap not a) ∙ need-holds _ _ _ _ (lt-ltb t txnCount h)
 
 -- the scan of the unflushed records
 module _ (w : List ℕ) (n t : ℕ) where
@@ -60,39 +59,40 @@ module _ (w : List ℕ) (n t : ℕ) where
   flushed-end i l m h = all-end (λ q. not (has w (unflushedAt n q) t)) n i l m h
 
 module _ (s : Areas) (n t : ℕ) where
-  pub commit-outside : 16 ≤ t → Refuse OutOfRange ≡ commitCheck s n t
-  unfolding commitCheck
-  commit-outside h = need-fails _ _ _ (le-ltb t 16 h)
+  pub commit-outside : txnCount ≤ t → Refuse OutOfRange ≡ verdict (commitTests s n t)
+  unfolding commitTests
+  commit-outside h = need-fails _ _ _ _ (le-ltb t txnCount h)
 
-  module _ (h : t < 16) where
-    pub commit-inactive : isActive (s .work) t ≡ false → Refuse WrongState ≡ commitCheck s n t
-    unfolding commitCheck
-    commit-inactive a = need-fails _ _ _ a ∙ need-holds _ _ _ (lt-ltb t 16 h)
+  module _ (h : t < txnCount) where
+    pub commit-inactive : isActive (s .work) t ≡ false → Refuse WrongState ≡ verdict (commitTests s n t)
+    unfolding commitTests
+    commit-inactive a = need-fails _ _ _ _ a ∙ need-holds _ _ _ _ (lt-ltb t txnCount h)
 
     module _ (a : isActive (s .work) t ≡ true) where
-      pub commit-unflushed : allFlushed (s .work) n t ≡ false → Refuse Unflushed ≡ commitCheck s n t
-      unfolding commitCheck
-      commit-unflushed f = need-fails _ _ _ f ∙ need-holds _ _ _ a ∙ need-holds _ _ _ (lt-ltb t 16 h)
+      pub commit-unflushed : allFlushed (s .work) n t ≡ false → Refuse Unflushed ≡ verdict (commitTests s n t)
+      unfolding commitTests
+      commit-unflushed f = need-fails _ _ _ _ f ∙ need-holds _ _ _ _ a ∙ need-holds _ _ _ _ (lt-ltb t txnCount h)
 
-      pub commit-passes : allFlushed (s .work) n t ≡ true → roomWithin s 1 ≡ true → Pass ≡ commitCheck s n t
-      unfolding commitCheck
-      commit-passes f b = need-holds _ _ _ b ∙ need-holds _ _ _ f ∙ need-holds _ _ _ a ∙ need-holds _ _ _ (lt-ltb t 16 h)
+      pub commit-passes : allFlushed (s .work) n t ≡ true → roomWithin s 1 ≡ true → Accept ≡ verdict (commitTests s n t)
+      unfolding commitTests
+      commit-passes f b = all-passed ∙ need-holds _ _ _ _ b ∙ need-holds _ _ _ _ f ∙ need-holds _ _ _ _ a ∙ need-holds _ _ _ _ (lt-ltb t txnCount h)
 
-      pub commit-full : allFlushed (s .work) n t ≡ true → roomWithin s 1 ≡ false → Refuse LogFull ≡ commitCheck s n t
-      unfolding commitCheck
-      commit-full f b = need-fails _ _ _ b ∙ need-holds _ _ _ f ∙ need-holds _ _ _ a ∙ need-holds _ _ _ (lt-ltb t 16 h)
+      pub commit-full : allFlushed (s .work) n t ≡ true → roomWithin s 1 ≡ false → Refuse LogFull ≡ verdict (commitTests s n t)
+      unfolding commitTests
+      commit-full f b = need-fails _ _ _ _ b ∙ need-holds _ _ _ _ f ∙ need-holds _ _ _ _ a ∙ need-holds _ _ _ _ (lt-ltb t txnCount h)
 
--- what the code that makes the change needs of a call whose check passed
-pub begin-ready : (s : Areas) (n t : ℕ) → Open s n → beginCheck s t ≡ Pass →
-    Fits (s .received) (s .log) (s .counts) (beginOf t) × ((length (s .work) ≡ 6 + 67 * n) × (0 < n) × (t < 32))
+-- what the code that makes the change needs of a call whose tests passed
+pub begin-ready : (s : Areas) (n t : ℕ) → Open s n → verdict (beginTests s t) ≡ Accept →
+    Fits (s .received) (s .log) (s .counts) (beginOf t) × (HasTables (s .work) n × (0 < n) × (t < 32))
 begin-ready s n t o h =
     let f = begin-facts s t h in
     let z = o .sized in
     let l = f .room in
-    (open-fits s n (beginOf t) o (begin-sound n t (f .txn)) (omega arith), (z .work-len, omega arith, omega arith))
+    (open-fits s n (beginOf t) o (begin-sound n t (f .txn)) (omega arith), (z .tables, omega arith, omega arith))
 
-pub commit-ready : (s : Areas) (n t : ℕ) → Open s n → commitCheck s n t ≡ Pass →
-    Fits (s .received) (s .log) (s .counts) (commitOf t) × ((length (s .work) ≡ 6 + 67 * n) × (t < 32))
+pub commit-ready : (s : Areas) (n t : ℕ) → Open s n → verdict (commitTests s n t) ≡ Accept →
+    Fits (s .received) (s .log) (s .counts) (commitOf t) × (HasTables (s .work) n × (0 < n) × (t < 32))
 commit-ready s n t o h =
     let f = commit-facts s n t h in
-    (open-fits s n (commitOf t) o (commit-sound n t (f .txn)) (f .room), (o .sized .work-len, omega arith))
+    let z = o .sized in
+    (open-fits s n (commitOf t) o (commit-sound n t (f .txn)) (f .room), (z .tables, omega arith, omega arith))

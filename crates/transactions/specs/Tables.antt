@@ -1,47 +1,56 @@
 -- The working tables at the begin and at the end of a transaction, by the runs of words that the code changes. n is the number of pages.
 -- Assumes nothing.
-use Prim.Native.Nat.{ℕ, _+_, _*_, _-_}
+use Prim.Native.Nat.{ℕ, _+_, _-_, _≤_}
 use mathlib.Core.Path.{_≡_, sym, ap, _∙_}
 use mathlib.Core.Bool.{not}
 use mathlib.Core.List.{List}
 use lib.Dec.{eqb}
 use native.Mathlib.Omega.{arith}
 use Rattle.words.specs.Spans.{over, over-outside}
-use Rattle.areas.specs.Layout.{activeAt, phaseAt, readersAt, writersAt, unflushedAt, knownAt, prunedAt, createdAt}
+use Rattle.pages.specs.Geometry.{objectCount, root}
+use Rattle.areas.specs.Layout.{activeAt, phaseAt, readersAt, writersAt, unflushedAt, knownAt, prunedAt, createdAt, colourAt}
 use Rattle.areas.specs.Tables.{gain, lose, passRuns}
 use Rattle.calls.specs.Transactions.{leaves, knowsRoot, endedEntry, endedEntries, endedTables}
 use Rattle.store_ops.specs.Tables.{over-join}
 
-pub tables-begun : (w : List ℕ) (n t : ℕ) {v u x : List ℕ} → v ≡ gain w activeAt t → u ≡ leaves t v (6 + 3 * n) (16 * n) → x ≡ gain u (6 + 3 * n) t →
-    x ≡ knowsRoot (gain w activeAt t) n t
-tables-begun w n t {v} {u} {x} a b d =
-    let e : 6 + 3 * n ≡ knownAt n 1 = omega arith in
-    d ∙ ap (λ (y : List ℕ). gain y (6 + 3 * n) t) (b ∙ ap (λ (y : List ℕ). leaves t y (6 + 3 * n) (16 * n)) a)
-    ∙ ap (λ (i : ℕ). gain (leaves t (gain w activeAt t) i (16 * n)) i t) e
+-- the masks of known objects begin at a, that of the root stands at b
+pub tables-begun : (w : List ℕ) (n t : ℕ) {v u x : List ℕ} {a b : ℕ} → a ≡ knownAt n 1 → b ≡ knownAt n root →
+    v ≡ gain w activeAt t → u ≡ leaves t v a (objectCount n) → x ≡ gain u b t → x ≡ knowsRoot (gain w activeAt t) n t
+tables-begun w n t ea eb g l k = k ∙ rw (l, g, ea, eb)
 
--- runs that follow one another
-joined : (f : ℕ → ℕ) (w : List ℕ) (a m b k l : ℕ) → b ≡ a + m → l ≡ m + k → over f (over f w a m) b k ≡ over f w a l
-joined f w a m b k l e d = rw (e, d) (over-join f w a m k)
+-- a run of words up to word b, and the k words from b to e
+joined : (f : ℕ → ℕ) (w : List ℕ) (a b e k : ℕ) → a ≤ b → e ≡ b + k → over f (over f w a (b - a)) b k ≡ over f w a (e - a)
+joined f w a b e k l d =
+    let p : b ≡ a + (b - a) = omega arith in
+    let q : e - a ≡ (b - a) + k = omega arith in
+    ap (λ (i : ℕ). over f (over f w a (b - a)) i k) p ∙ over-join f w a (b - a) k ∙ ap (over f w a) (sym q)
 
-masks : (w : List ℕ) (n t : ℕ) →
-    leaves t (leaves t (leaves t (leaves t w (readersAt n 0) n) (writersAt n 0) n) (unflushedAt n 0) n) (knownAt n 1) (16 * n) ≡ leaves t w 6 (19 * n)
-masks w n t =
-    ap (λ (x : List ℕ). leaves t (leaves t x (unflushedAt n 0) n) (knownAt n 1) (16 * n)) (joined _ w (readersAt n 0) n (writersAt n 0) n (2 * n) (omega arith) (omega arith))
-    ∙ ap (λ (x : List ℕ). leaves t x (knownAt n 1) (16 * n)) (joined _ w (readersAt n 0) (2 * n) (unflushedAt n 0) n (3 * n) (omega arith) (omega arith))
-    ∙ joined _ w (readersAt n 0) (3 * n) (knownAt n 1) (16 * n) (19 * n) (omega arith) (omega arith)
+module _ (w : List ℕ) (n t : ℕ) where
+  masks : leaves t (leaves t (leaves t (leaves t w (readersAt n 0) n) (writersAt n 0) n) (unflushedAt n 0) n) (knownAt n 1) (objectCount n)
+      ≡ leaves t w (readersAt n 0) (prunedAt n 1 - readersAt n 0)
+  masks =
+      let a = readersAt n 0 in
+      let e : n ≡ writersAt n 0 - a = omega arith in
+      ap (λ (k : ℕ). leaves t (leaves t (leaves t (leaves t w a k) (writersAt n 0) n) (unflushedAt n 0) n) (knownAt n 1) (objectCount n)) e
+      ∙ ap (λ (x : List ℕ). leaves t (leaves t x (unflushedAt n 0) n) (knownAt n 1) (objectCount n)) (joined _ w a (writersAt n 0) (unflushedAt n 0) n (omega arith) (omega arith))
+      ∙ ap (λ (x : List ℕ). leaves t x (knownAt n 1) (objectCount n)) (joined _ w a (unflushedAt n 0) (knownAt n 1) n (omega arith) (omega arith))
+      ∙ joined _ w a (knownAt n 1) (prunedAt n 1) (objectCount n) (omega arith) (omega arith)
 
-entries : (w : List ℕ) (n t : ℕ) → endedEntries t (endedEntries t w (prunedAt n 1) (16 * n)) (createdAt n 1) (16 * n) ≡ endedEntries t w (6 + 19 * n) (32 * n)
-entries w n t =
-    let f = endedEntry (passRuns w) t in
-    let e : 6 + 19 * n ≡ prunedAt n 1 = omega arith in
-    ap (λ (p : ℕ). over (endedEntry (not (eqb p 0)) t) (over f w (prunedAt n 1) (16 * n)) (createdAt n 1) (16 * n)) (over-outside f w (prunedAt n 1) (16 * n) phaseAt 0 (λ k l z. omega arith))
-    ∙ joined f w (prunedAt n 1) (16 * n) (createdAt n 1) (16 * n) (32 * n) (omega arith) (omega arith)
-    ∙ ap (λ (a : ℕ). over f w a (32 * n)) (sym e)
+  entries : endedEntries t (endedEntries t w (prunedAt n 1) (objectCount n)) (createdAt n 1) (objectCount n)
+      ≡ endedEntries t w (prunedAt n 1) (colourAt n 1 - prunedAt n 1)
+  entries =
+      let f = endedEntry (passRuns w) t in
+      let e : objectCount n ≡ createdAt n 1 - prunedAt n 1 = omega arith in
+      ap (λ (p : ℕ). over (endedEntry (not (eqb p 0)) t) (over f w (prunedAt n 1) (objectCount n)) (createdAt n 1) (objectCount n)) (over-outside f w (prunedAt n 1) (objectCount n) phaseAt 0 (λ k l z. omega arith))
+      ∙ ap (λ (k : ℕ). over f (over f w (prunedAt n 1) k) (createdAt n 1) (objectCount n)) e
+      ∙ joined f w (prunedAt n 1) (createdAt n 1) (colourAt n 1) (objectCount n) (omega arith) (omega arith)
 
-pub tables-ended : (w : List ℕ) (n t : ℕ) {v u x : List ℕ} → v ≡ lose w activeAt t → u ≡ leaves t v 6 (19 * n) → x ≡ endedEntries t u (6 + 19 * n) (32 * n) →
-    x ≡ endedTables w n t
+-- the masks begin at a, the entries at b, and end at d
+pub tables-ended : (w : List ℕ) (n t : ℕ) {v u x : List ℕ} {a b d : ℕ} → a ≡ readersAt n 0 → b ≡ prunedAt n 1 → d ≡ colourAt n 1 →
+    v ≡ lose w activeAt t → u ≡ leaves t v a (b - a) → x ≡ endedEntries t u b (d - b) → x ≡ endedTables w n t
 unfolding endedTables
-tables-ended w n t {v} {u} {x} a b d =
-    d ∙ ap (λ (y : List ℕ). endedEntries t y (6 + 19 * n) (32 * n)) (b ∙ ap (λ (y : List ℕ). leaves t y 6 (19 * n)) a)
-    ∙ sym (ap (λ (y : List ℕ). endedEntries t (endedEntries t y (prunedAt n 1) (16 * n)) (createdAt n 1) (16 * n)) (masks (lose w activeAt t) n t)
-    ∙ entries (leaves t (lose w activeAt t) 6 (19 * n)) n t)
+tables-ended w n t ea eb ed hv hu hx =
+    let l = lose w activeAt t in
+    hx ∙ rw (hu, hv, ea, eb, ed)
+    (sym (ap (λ (y : List ℕ). endedEntries t (endedEntries t y (prunedAt n 1) (objectCount n)) (createdAt n 1) (objectCount n)) (masks l n t)
+    ∙ entries (leaves t l (readersAt n 0) (prunedAt n 1 - readersAt n 0)) n t))

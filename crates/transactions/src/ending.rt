@@ -1,26 +1,33 @@
 ghost use mathlib.Core.Path.{_≡_};
 ghost use mathlib.Core.List.{[]};
-ghost use Prim.Native.Nat.{_+_, _*_, _<_, _≤_};
+ghost use Prim.Native.Nat.{_+_, _<_, _≤_};
 ghost use lib.ListN.{length};
+ghost use Rattle.records.specs.Records.{maxRecords};
 ghost use Rattle.areas.specs.Areas.{areas};
+ghost use Rattle.areas.specs.Layout.{HasTables};
 ghost use Rattle.calls.specs.Room.{roomWithin};
 ghost use Rattle.calls.specs.Transactions.{endedTables};
+use areas::layout;
+use records::RECORD_WORDS;
 
 // Whether k more records fit.
 pub fn room_within(log: &[u32], counts: &[u32], k: usize) -> bool
-    requires { ⌜ (0 < length (now counts)) × (k ≤ 4097) ⌝ }
+    requires { ⌜ (0 < length (now counts)) × (k ≤ maxRecords + 1) ⌝ }
     ensures { λ r. ⌜ r ≡ roomWithin (areas [] [] [] (now (log .entry)) (now (counts .entry)) []) k ⌝ }
 {
-    counts[0] as usize + k <= log.len() / 6
+    counts[layout::RECEIVED] as usize + k <= log.len() / RECORD_WORDS
 }
 
 // The tables once t has ended. The masks of readers, writers, unflushed records and known objects are one run, those of the PRT and
 // the COT another.
 pub fn end_tables(work: &mut [u32], n: usize, t: u32)
-    requires { ⌜ (length (now work) ≡ 6 + 67 * n) × (t < 32) ⌝ }
+    requires { ⌜ HasTables (now work) n × (0 < n) × (t < 32) ⌝ }
     ensures { λ _. ⌜ now (work .exit) ≡ endedTables (now (work .entry)) n t ⌝ }
 {
-    store_ops::lose(work, 5, t);
-    store_ops::leave_all(work, 6, 19 * n, t);
-    store_ops::end_entries(work, 6 + 19 * n, 32 * n, t);
+    let masks = layout::readers_at(n, 0);
+    let entries = layout::pruned_at(n, 1);
+    let end = layout::colour_at(n, 1);
+    store_ops::lose(work, layout::ACTIVE_AT, t);
+    store_ops::leave_all(work, masks, entries - masks, t);
+    store_ops::end_entries(work, entries, end - entries, t);
 }

@@ -10,26 +10,8 @@ use Rattle.aborts.proofs.aborting.abort_check.Tie as tie
 returns : tie.Need-returns
 returns c = abort-outside _ _ (c .if1 .taken)
 
-has-requires : tie.Need-has-requires
-has-requires c κs = search needs
-
 returns-2 : tie.Need-returns-2
 returns-2 c = abort-inactive _ _ (c .before .before .if1 .left) (sym (c .before .has .ensures) ∙ not-true _ (c .if2 .taken))
-
-shared-slice-read-changes-left : tie.Need-shared-slice-read-changes-left
-shared-slice-read-changes-left c = search needs
-
-cast-changes-left : tie.Need-cast-changes-left
-cast-changes-left c = search needs
-
-changes-left-requires : tie.Need-changes-left-requires
-changes-left-requires c κs = search needs
-
-cast-room-within : tie.Need-cast-room-within
-cast-room-within c = search needs
-
-add-room-within : tie.Need-add-room-within
-add-room-within c = search needs
 
 room-within-requires : tie.Need-room-within-requires
 room-within-requires c κs = let f = few-found [] _ _ _ (c .changes-left .ensures []) in let k = c .before .before .before .before .before .before .before .before .pre .0 in omega arith
@@ -45,13 +27,13 @@ abort-check-spec =
     tie.close
     (tie.spec
     returns
-    has-requires
+    (λ c κs. search needs)
     returns-2
-    shared-slice-read-changes-left
-    cast-changes-left
-    changes-left-requires
-    cast-room-within
-    add-room-within
+    (λ c. search needs)
+    (λ c. search needs)
+    (λ c κs. search needs)
+    (λ c. search needs)
+    (λ c. search needs)
     room-within-requires
     returns-3
     returns-4)

@@ -21,17 +21,8 @@ loop-holds c = (omega arith, refl, refl)
 restore-page-requires : tie.Need-restore-page-requires Inv-loop μ-loop
 restore-page-requires c κs = omega arith
 
-add-p : tie.Need-add-p Inv-loop μ-loop
-add-p c = search needs
-
-loop-less : tie.Need-loop-less Inv-loop μ-loop
-loop-less c = search needs
-
 loop-again : tie.Need-loop-again Inv-loop μ-loop
 loop-again c = (omega arith, c .before .before .restore-page .kept .1 .1 .0 ∙ c .before .before .before .before .before .loop .inv .1, restored-next _ _ _ _ _ _ _ (c .before .before .before .before .before .loop .inv .2) (c .before .before .restore-page .ensures))
-
-same-length : tie.Need-same-length Inv-loop μ-loop
-same-length c = search needs
 
 returns : tie.Need-returns Inv-loop μ-loop
 returns c = let e : c .before .loop .p ≡ c .before .before .before .before .before .args .n = omega arith in rw e at (c .before .loop .inv .2)
@@ -44,8 +35,8 @@ restore-spec =
     μ-loop
     loop-holds
     restore-page-requires
-    add-p
-    loop-less
+    (λ c. search needs)
+    (λ c. search needs)
     loop-again
-    same-length
+    (λ c. search needs)
     returns)

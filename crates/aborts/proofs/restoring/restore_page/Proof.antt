@@ -4,15 +4,6 @@ use borrow.Author.Needs.{needs}
 use Rattle.aborts.proofs.restoring.restore_page.Statement.{statement}
 use Rattle.aborts.proofs.restoring.restore_page.Tie as tie
 
-can-write-requires : tie.Need-can-write-requires
-can-write-requires c κs = search needs
-
-copy-page-requires : tie.Need-copy-page-requires
-copy-page-requires c κs = search needs
-
-same-length : tie.Need-same-length
-same-length c = search needs
-
 returns : tie.Need-returns
 returns c = c .before .before .copy-page .ensures ∙ sym (if-t _ _ _ (sym (c .before .before .before .before .before .can-write .ensures) ∙ c .before .before .before .before .if1 .taken))
 
@@ -21,4 +12,4 @@ returns-2 c = sym (if-f _ _ _ (sym (c .before .can-write .ensures) ∙ c .if1 .l
 
 pub restore-page-spec : {M : Type 1} → statement M
 restore-page-spec =
-    tie.close (tie.spec can-write-requires copy-page-requires same-length returns returns-2)
+    tie.close (tie.spec (λ c κs. search needs) (λ c κs. search needs) (λ c. search needs) returns returns-2)

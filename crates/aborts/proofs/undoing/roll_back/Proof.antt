@@ -12,9 +12,6 @@ Inv-loop received₀ log₀ counts₀ t i₀ left₀ received log counts i left 
 abbrev μ-loop : tie.MeasureT-loop
 μ-loop received₀ log₀ counts₀ t i₀ left₀ received log counts i left = i
 
-slice-read-i : tie.Need-slice-read-i Inv-loop μ-loop
-slice-read-i c = search needs
-
 cast-i : tie.Need-cast-i Inv-loop μ-loop
 cast-i c = let k = c .before .before .before .before .pre .kept in omega arith
 
@@ -54,7 +51,7 @@ roll-back-spec =
     (tie.spec
     Inv-loop
     μ-loop
-    slice-read-i
+    (λ c. search needs)
     cast-i
     changes-left-requires
     loop-holds

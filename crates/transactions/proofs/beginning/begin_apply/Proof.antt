@@ -5,35 +5,11 @@ use Rattle.transactions.proofs.beginning.begin_apply.Statement.{stateme
 use Rattle.transactions.proofs.beginning.begin_apply.Tie as tie
 
 append-requires : tie.Need-append-requires
-append-requires c κs = search needs
-
-begin-tables-requires : tie.Need-begin-tables-requires
-begin-tables-requires c κs = search needs
-
-same-length : tie.Need-same-length
-same-length c = search needs
-
-same-length-2 : tie.Need-same-length-2
-same-length-2 c = search needs
-
-same-length-3 : tie.Need-same-length-3
-same-length-3 c = search needs
-
-same-length-4 : tie.Need-same-length-4
-same-length-4 c = search needs
+append-requires c κs = rw (c .begin-of .ensures) (c .before .before .before .before .before .before .before .before .pre .0)
 
 returns : tie.Need-returns
 unfolding begun
-returns c = λ s k. appended-out s k _ _ _ _ _ _ _ _ _ _ _ (c .before .before .before .before .before .before .before .before .before .before .before .before .before .before .before .before .before .before .pre .0 .two) (c .before .before .before .before .before .before .before .before .before .before .append .ensures) (c .before .before .begin-tables .ensures)
+returns c = λ s k. appended-out s k _ _ _ _ _ _ _ _ _ _ _ (c .before .before .before .before .before .before .before .before .before .before .before .before .before .before .before .before .before .before .before .pre .0 .two) (rw (c .before .before .before .before .before .before .before .before .before .before .before .begin-of .ensures) at (c .before .before .before .before .before .before .before .before .before .before .append .ensures)) (c .before .before .begin-tables .ensures)
 
 pub begin-apply-spec : {M : Type 1} → statement M
-begin-apply-spec =
-    tie.close
-    (tie.spec
-    append-requires
-    begin-tables-requires
-    same-length
-    same-length-2
-    same-length-3
-    same-length-4
-    returns)
+begin-apply-spec = tie.close (tie.spec (λ c κs. search needs) append-requires (λ c κs. search needs) (λ c. search needs) (λ c. search needs) (λ c. search needs) (λ c. search needs) returns)

@@ -7,14 +7,8 @@ use Rattle.transactions.proofs.beginning.begin_check.Tie as tie
 returns : tie.Need-returns
 returns c = begin-outside _ _ (c .if1 .taken)
 
-has-requires : tie.Need-has-requires
-has-requires c κs = search needs
-
 returns-2 : tie.Need-returns-2
 returns-2 c = begin-active _ _ (c .before .before .if1 .left) (sym (c .before .has .ensures) ∙ c .if2 .taken)
-
-room-beyond-requires : tie.Need-room-beyond-requires
-room-beyond-requires c κs = search needs
 
 returns-3 : tie.Need-returns-3
 returns-3 c = begin-passes _ _ (c .before .before .before .before .if1 .left) (sym (c .before .before .before .has .ensures) ∙ c .before .before .if2 .left) (sym (c .before .room-beyond .ensures) ∙ c .if3 .taken)
@@ -24,4 +18,4 @@ returns-4 c = begin-full _ _ (c .before .before .before .before .if1 .left) (sym
 
 pub begin-check-spec : {M : Type 1} → statement M
 begin-check-spec =
-    tie.close (tie.spec returns has-requires returns-2 room-beyond-requires returns-3 returns-4)
+    tie.close (tie.spec returns (λ c κs. search needs) returns-2 (λ c κs. search needs) returns-3 returns-4)

@@ -8,20 +8,11 @@ use Rattle.transactions.proofs.committing.commit_check.Tie as tie
 returns : tie.Need-returns
 returns c = commit-outside _ _ _ (c .if1 .taken)
 
-has-requires : tie.Need-has-requires
-has-requires c κs = search needs
-
 returns-2 : tie.Need-returns-2
 returns-2 c = commit-inactive _ _ _ (c .before .before .if1 .left) (sym (c .before .has .ensures) ∙ not-true _ (c .if2 .taken))
 
-all-flushed-requires : tie.Need-all-flushed-requires
-all-flushed-requires c κs = search needs
-
 returns-3 : tie.Need-returns-3
 returns-3 c = commit-unflushed _ _ _ (c .before .before .before .before .if1 .left) (sym (c .before .before .before .has .ensures) ∙ not-false _ (c .before .before .if2 .left)) (sym (c .before .all-flushed .ensures) ∙ not-true _ (c .if3 .taken))
-
-room-within-requires : tie.Need-room-within-requires
-room-within-requires c κs = search needs
 
 returns-4 : tie.Need-returns-4
 returns-4 c = commit-passes _ _ _ (c .before .before .before .before .before .before .if1 .left) (sym (c .before .before .before .before .before .has .ensures) ∙ not-false _ (c .before .before .before .before .if2 .left)) (sym (c .before .before .before .all-flushed .ensures) ∙ not-false _ (c .before .before .if3 .left)) (sym (c .before .room-within .ensures) ∙ c .if4 .taken)
@@ -34,10 +25,10 @@ commit-check-spec =
     tie.close
     (tie.spec
     returns
-    has-requires
+    (λ c κs. search needs)
     returns-2
-    all-flushed-requires
+    (λ c κs. search needs)
     returns-3
-    room-within-requires
+    (λ c κs. search needs)
     returns-4
     returns-5)

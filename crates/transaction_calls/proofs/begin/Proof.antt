@@ -1,0 +1,17 @@
+use Rattle.areas.specs.Entry.{called-malformed}
+use Rattle.calls.specs.Transactions.{callBegin}
+use borrow.Author.Tests.{not-true, not-false}
+use mathlib.Core.Path.{sym, _∙_}
+use borrow.Author.Needs.{needs}
+use Rattle.transaction_calls.proofs.begin.Statement.{statement}
+use Rattle.transaction_calls.proofs.begin.Tie as tie
+
+returns : tie.Need-returns
+unfolding callBegin
+returns c = called-malformed _ _ _ _ _ (sym (c .before .well-formed .ensures) ∙ not-true _ (c .if1 .taken))
+
+held-begin-requires : tie.Need-held-begin-requires
+held-begin-requires c κs = sym (c .before .before .before .before .before .well-formed .ensures) ∙ not-false _ (c .before .before .before .before .if1 .left)
+
+pub begin-spec : {M : Type 1} → statement M
+begin-spec = tie.close (tie.spec (λ c κs. search needs) (λ c. search needs) (λ c. search needs) (λ c. search needs) (λ c. search needs) returns held-begin-requires (λ c. search needs) (λ c. search needs) (λ c. search needs) (λ c. search needs) (λ c. search needs))
