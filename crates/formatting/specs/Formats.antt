@@ -4,16 +4,16 @@ use mathlib.Core.Path.{_≡_, refl, sym, ap, _∙_}
 use mathlib.Core.Bool.{true, false}
 use mathlib.Core.List.{List}
 use lib.ListN.{length, set, replicate}
-use Rattle.pages.specs.Geometry.{root}
+use Rattle.pages.specs.Geometry.{pageWords, root}
 use Rattle.pages.specs.Objects.{occupy, formattedPages}
 use Rattle.areas.specs.declared.Refusal.the-variants.{Malformed}
 use Rattle.areas.specs.declared.Answer.the-variants.{Done, Refused}
-use Rattle.areas.specs.Answers.{need-holds, need-fails}
+use Rattle.areas.specs.Answers.{all-passed, need-holds, need-fails}
 use Rattle.areas.specs.Areas.{areas, out, done, checked-pass, checked-refuse}
-use Rattle.areas.specs.Layout.{reopeningAt}
+use Rattle.areas.specs.Layout.{reopeningAt, finished}
 use Rattle.areas.specs.Ranges.{fit}
 use Rattle.areas.specs.Entry.{pages, records}
-use Rattle.calls.specs.Formatting.{formatted, callFormat}
+use Rattle.calls.specs.Formatting.{formatted, formatTests, callFormat}
 use Rattle.acceptance.specs.Lengths.{sized}
 
 -- as many zeros as there are words
@@ -26,9 +26,9 @@ formattedArea a = occupy (zeros a) root
 
 -- the working tables: zeros, and the reopening finished
 abbrev pub formattedWork : List ℕ → List ℕ
-formattedWork w = set (zeros w) reopeningAt 2
+formattedWork w = set (zeros w) reopeningAt finished
 
-pub area-formatted : (a : List ℕ) (n : ℕ) → length a ≡ 129 * n → formattedArea a ≡ formattedPages n
+pub area-formatted : (a : List ℕ) (n : ℕ) → length a ≡ pageWords * n → formattedArea a ≡ formattedPages n
 unfolding formattedArea formattedPages
 area-formatted a n e = rw e
 
@@ -37,8 +37,8 @@ same-areas es ec er eg ek ew = cc
 
 module _ (s c r g k w : List ℕ) where
   pub format-refuses : fit (areas s c r g k w) ≡ false → out (Refused Malformed) s c r g k w ≡ callFormat (areas s c r g k w)
-  unfolding callFormat
-  format-refuses h = checked-refuse _ _ _ _ (sym (need-fails _ _ _ h))
+  unfolding callFormat formatTests
+  format-refuses h = checked-refuse _ _ _ _ (sym (need-fails _ _ _ _ h))
 
   -- all six areas by their lengths are the formatted store
   all-formatted : fit (areas s c r g k w) ≡ true →
@@ -46,10 +46,10 @@ module _ (s c r g k w : List ℕ) where
   unfolding formatted
   all-formatted h = let z = sized (areas s c r g k w) (pages (areas s c r g k w)) h refl in
       same-areas (area-formatted s _ (z .stored-len)) (area-formatted c _ (z .copies-len)) (area-formatted r _ (z .received-len))
-      (ap (λ (l : ℕ). replicate l 0) (z .log-len)) (ap (λ (l : ℕ). replicate l 0) (z .counts-len)) (ap (λ (l : ℕ). set (replicate l 0) reopeningAt 2) (z .work-len))
+      (ap (λ (l : ℕ). replicate l 0) (z .log-len)) (ap (λ (l : ℕ). replicate l 0) (z .counts-len)) (ap (λ (l : ℕ). set (replicate l 0) reopeningAt finished) (z .work-len))
 
   pub format-done : {s′ c′ r′ g′ k′ w′ : List ℕ} → fit (areas s c r g k w) ≡ true
       → s′ ≡ formattedArea s → c′ ≡ formattedArea c → r′ ≡ formattedArea r → g′ ≡ zeros g → k′ ≡ zeros k → w′ ≡ formattedWork w
       → out (Done 0) s′ c′ r′ g′ k′ w′ ≡ callFormat (areas s c r g k w)
-  unfolding callFormat
-  format-done h es ec er eg ek ew = ap (done 0) (same-areas es ec er eg ek ew ∙ all-formatted h) ∙ checked-pass _ _ _ (sym (need-holds _ _ _ h))
+  unfolding callFormat formatTests
+  format-done h es ec er eg ek ew = ap (done 0) (same-areas es ec er eg ek ew ∙ all-formatted h) ∙ checked-pass _ _ _ (sym (all-passed ∙ need-holds _ _ _ _ h))

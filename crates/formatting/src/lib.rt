@@ -1,29 +1,33 @@
 // A new store: the root alone in all three page areas, an empty log, and clear working tables.
 ghost use mathlib.Core.Path.{_≡_};
-ghost use Prim.Native.Nat.{_≤_};
+ghost use Prim.Native.Nat.{_<_, _≤_};
 ghost use lib.ListN.{length};
+ghost use Rattle.pages.specs.Geometry.{pageWords};
 ghost use Rattle.areas.specs.Areas.{areas, out};
+ghost use Rattle.areas.specs.Layout.{reopeningAt};
 ghost use Rattle.calls.specs.Formatting.{callFormat};
 ghost use Rattle.formatting.specs.Formats.{zeros, formattedArea, formattedWork};
 use areas::Answer;
 use areas::Refusal;
+use areas::layout;
+use pages::ROOT;
 
 // A page area becomes the root alone.
 fn format_pages(a: &mut [u32])
-    requires { ⌜ 129 ≤ length (now a) ⌝ }
+    requires { ⌜ pageWords ≤ length (now a) ⌝ }
     ensures { λ _. ⌜ now (a .exit) ≡ formattedArea (now (a .entry)) ⌝ }
 {
     page_ops::areas::clear(a);
-    page_ops::change::occupy(a, 1);
+    page_ops::change::occupy(a, ROOT);
 }
 
 // The working tables become clear but for a finished reopening.
 fn format_tables(work: &mut [u32])
-    requires { ⌜ 6 ≤ length (now work) ⌝ }
+    requires { ⌜ reopeningAt < length (now work) ⌝ }
     ensures { λ _. ⌜ now (work .exit) ≡ formattedWork (now (work .entry)) ⌝ }
 {
     page_ops::areas::clear(work);
-    work[0] = 2;
+    work[layout::REOPENING_AT] = layout::FINISHED;
 }
 
 // Makes a new store of all six areas; looks at their lengths only.

@@ -1,129 +1,112 @@
-// Reopening after a cut: what the stored pages and the stable records give, and the steps that make it stable.
+// Reopening after a cut: what the stored pages and the stable records give, and the steps that make it stable. What each call tests and
+// changes.
 ghost use mathlib.Core.Path.{_≡_};
 ghost use mathlib.Core.Bool.{true};
-ghost use Prim.Native.Nat.{_/_};
-ghost use lib.ListN.{length, getD};
-ghost use Rattle.areas.specs.Areas.{areas, out};
-ghost use Rattle.areas.specs.Ranges.{fit};
-ghost use Rattle.recovering.specs.Reading.{foundOf};
-ghost use Rattle.recovering.specs.declared.Scan.the-variants.{Open};
-ghost use Rattle.calls.specs.Reopening.{callReopen, callRestep};
-use areas::Answer;
-use areas::Ready;
+ghost use mathlib.Core.List.{[]};
+ghost use Prim.Native.Nat.{_+_, _*_, _<_, _≤_};
+ghost use lib.ListN.{length, set};
+ghost use Rattle.words.specs.Tests.{if};
+ghost use Rattle.pages.specs.Geometry.{maxPages, pageWords, pageAt};
+ghost use Rattle.pages.specs.Objects.{copiedPage};
+ghost use Rattle.records.specs.Records.{recordWords};
+ghost use Rattle.records.specs.Soundness.{recordsSound};
+ghost use Rattle.records.specs.Order.{openIn};
+ghost use Rattle.records.specs.Recovery.{recovered};
+ghost use Rattle.areas.specs.Answers.{verdict};
+ghost use Rattle.areas.specs.Areas.{areas, countWords};
+ghost use Rattle.areas.specs.Layout.{reopeningAt, reopeningPageAt, finished};
+ghost use Rattle.calls.specs.Reopening.{restepTests};
+ghost use Rattle.reopening.specs.Reopens.{freeAfter};
+use areas::Check;
 use areas::Refusal;
-use recovering::Scan;
+use areas::layout;
+use pages::MAX_PAGES;
+use pages::PAGE_WORDS;
 
-// Reopens, if the pages that the log leaves are sound. They are made in room, since nothing lent may change before that is known.
-fn reopen_in(
+// Room for the pages of a small, a middle and a large store: to clear more than it takes would take longer than to reopen it.
+const SMALL_WORDS: usize = 16 * PAGE_WORDS;
+
+const MIDDLE_WORDS: usize = 64 * PAGE_WORDS;
+
+const LARGE_WORDS: usize = MAX_PAGES * PAGE_WORDS;
+
+// Copies and received pages of a store of n pages become what the stored pages and the first c records give, if its free slots are
+// zero; answers whether they are. The pages are made in room, since nothing lent may change before that is known.
+fn recover_in(
     stored: &[u32],
     copies: &mut [u32],
     received: &mut [u32],
     log: &[u32],
-    counts: &mut [u32],
-    work: &mut [u32],
     room: &mut [u32],
+    n: usize,
+    c: usize,
     m: u32,
-) -> Answer
-    requires { ⌜ (fit (areas (now stored) (now copies) (now received) (now log) (now counts) (now work)) ≡ true) × (foundOf (length (now stored) / 129) (length (now log) / 6) (now stored) (now log) (getD (now counts) 1 0) ≡ Open m) × (length (now room) ≡ length (now stored)) ⌝ }
-    ensures { λ r. ⌜ out r (now (stored .exit)) (now (copies .exit)) (now (received .exit)) (now (log .exit)) (now (counts .exit)) (now (work .exit)) ≡ callReopen (areas (now (stored .entry)) (now (copies .entry)) (now (received .entry)) (now (log .entry)) (now (counts .entry)) (now (work .entry))) ⌝ }
+) -> bool
+    requires { ⌜ (length (now room) ≡ length (now stored)) × (length (now copies) ≡ length (now stored)) × (length (now received) ≡ length (now stored)) × (length (now stored) ≡ pageWords * n) × (recordWords * c ≤ length (now log)) × (recordsSound n (now log) c ≡ true) × (m ≡ openIn (now log) c) ⌝ }
+    ensures { λ b. ⌜ (b ≡ freeAfter (now (stored .entry)) (now (log .entry)) n c) × (now (copies .exit) ≡ if b (recovered (now (stored .entry)) (now (log .entry)) c) (now (copies .entry))) × (now (received .exit) ≡ if b (recovered (now (stored .entry)) (now (log .entry)) c) (now (received .entry))) ⌝ }
 {
-    let c = counts[1] as usize;
-    if !recovering::recover(stored, room, log, stored.len() / 129, c, m) {
-        return Answer::Refused(Refusal::Unsound);
+    if !recovering::recover(stored, room, log, n, c, m) {
+        return false;
     }
     page_ops::areas::copy_area(room, received);
     page_ops::areas::copy_area(room, copies);
-    recovering::restart(counts, work);
-    Answer::Done(0)
+    true
 }
 
-// The same, with room of its own: for 16, 64 or 256 pages, since to clear more than that takes longer than to reopen a small store.
-fn reopen_found(
+// The same, with room of its own.
+pub fn recover_both(
     stored: &[u32],
     copies: &mut [u32],
     received: &mut [u32],
     log: &[u32],
-    counts: &mut [u32],
-    work: &mut [u32],
+    n: usize,
+    c: usize,
     m: u32,
-) -> Answer
-    requires { ⌜ (fit (areas (now stored) (now copies) (now received) (now log) (now counts) (now work)) ≡ true) × (foundOf (length (now stored) / 129) (length (now log) / 6) (now stored) (now log) (getD (now counts) 1 0) ≡ Open m) ⌝ }
-    ensures { λ r. ⌜ out r (now (stored .exit)) (now (copies .exit)) (now (received .exit)) (now (log .exit)) (now (counts .exit)) (now (work .exit)) ≡ callReopen (areas (now (stored .entry)) (now (copies .entry)) (now (received .entry)) (now (log .entry)) (now (counts .entry)) (now (work .entry))) ⌝ }
+) -> bool
+    requires { ⌜ (n ≤ maxPages) × (length (now copies) ≡ length (now stored)) × (length (now received) ≡ length (now stored)) × (length (now stored) ≡ pageWords * n) × (recordWords * c ≤ length (now log)) × (recordsSound n (now log) c ≡ true) × (m ≡ openIn (now log) c) ⌝ }
+    ensures { λ b. ⌜ (b ≡ freeAfter (now (stored .entry)) (now (log .entry)) n c) × (now (copies .exit) ≡ if b (recovered (now (stored .entry)) (now (log .entry)) c) (now (copies .entry))) × (now (received .exit) ≡ if b (recovered (now (stored .entry)) (now (log .entry)) c) (now (received .entry))) ⌝ }
 {
-    if stored.len() <= 2064 {
-        let mut small = [0u32; 2064];
+    if stored.len() <= SMALL_WORDS {
+        let mut small = [0u32; SMALL_WORDS];
         let room = &mut small[..stored.len()];
-        return reopen_in(stored, copies, received, log, counts, work, room, m);
+        return recover_in(stored, copies, received, log, room, n, c, m);
     }
-    if stored.len() <= 8256 {
-        let mut middle = [0u32; 8256];
+    if stored.len() <= MIDDLE_WORDS {
+        let mut middle = [0u32; MIDDLE_WORDS];
         let room = &mut middle[..stored.len()];
-        return reopen_in(stored, copies, received, log, counts, work, room, m);
+        return recover_in(stored, copies, received, log, room, n, c, m);
     }
-    let mut large = [0u32; 33024];
+    let mut large = [0u32; LARGE_WORDS];
     let room = &mut large[..stored.len()];
-    reopen_in(stored, copies, received, log, counts, work, room, m)
+    recover_in(stored, copies, received, log, room, n, c, m)
 }
 
-// Reopens: received pages and copies become what the stored pages and the stable records give. Looks at the lengths, the stored pages,
-// the stable count and its records only, and may be called at any time.
-pub fn reopen(
-    stored: &[u32],
-    copies: &mut [u32],
-    received: &mut [u32],
-    log: &[u32],
-    counts: &mut [u32],
-    work: &mut [u32],
-) -> Answer
-    ensures { λ r. ⌜ out r (now (stored .exit)) (now (copies .exit)) (now (received .exit)) (now (log .exit)) (now (counts .exit)) (now (work .exit)) ≡ callReopen (areas (now (stored .entry)) (now (copies .entry)) (now (received .entry)) (now (log .entry)) (now (counts .entry)) (now (work .entry))) ⌝ }
+// Refusal 4 of a reopening step: none is running.
+pub fn restep_check(work: &[u32]) -> Check
+    requires { ⌜ reopeningAt < length (now work) ⌝ }
+    ensures { λ r. ⌜ r ≡ verdict (restepTests (areas [] [] [] [] [] (now (work .entry)))) ⌝ }
 {
-    if !entry::lengths_fit(
-        stored.len(),
-        copies.len(),
-        received.len(),
-        log.len(),
-        counts.len(),
-        work.len(),
-    ) {
-        return Answer::Refused(Refusal::Malformed);
+    if work[layout::REOPENING_AT] == layout::RUNNING {
+        return Check::Accept;
     }
-    let stable = counts[1] as usize;
-    let s = recovering::find_open(stored, log, stored.len() / 129, log.len() / 6, stable);
-    match s {
-        Scan::Refuse(x) => Answer::Refused(x),
-        Scan::Open(m) => reopen_found(stored, copies, received, log, counts, work, m),
-    }
+    Check::Refuse(Refusal::WrongState)
 }
 
-// One reopening step: stores the next page, or, after the last, empties the log and ends the reopening.
-pub fn restep(
-    stored: &mut [u32],
-    copies: &[u32],
-    received: &[u32],
-    log: &[u32],
-    counts: &mut [u32],
-    work: &mut [u32],
-) -> Answer
-    ensures { λ r. ⌜ out r (now (stored .exit)) (now (copies .exit)) (now (received .exit)) (now (log .exit)) (now (counts .exit)) (now (work .exit)) ≡ callRestep (areas (now (stored .entry)) (now (copies .entry)) (now (received .entry)) (now (log .entry)) (now (counts .entry)) (now (work .entry))) ⌝ }
+// Page p is stored, and the next one's turn comes.
+pub fn store_next(stored: &mut [u32], copies: &[u32], work: &mut [u32], p: u32)
+    requires { ⌜ (p < maxPages) × (pageAt p + pageWords ≤ length (now copies)) × (pageAt p + pageWords ≤ length (now stored)) × (reopeningPageAt < length (now work)) ⌝ }
+    ensures { λ _. ⌜ (now (stored .exit) ≡ copiedPage (now (copies .entry)) (now (stored .entry)) p) × (now (work .exit) ≡ set (now (work .entry)) reopeningPageAt (p + 1)) ⌝ }
 {
-    let e = entry::entry_check(stored, copies, received, log, counts, work, true, false);
-    match e {
-        Ready::Not(x) => Answer::Refused(x),
-        Ready::Go(n) => {
-            if work[0] != 1 {
-                return Answer::Refused(Refusal::WrongState);
-            }
-            let p = work[1];
-            if (p as usize) < n {
-                page_ops::copy::copy_page(copies, stored, p as usize);
-                work[1] = p + 1;
-                return Answer::Done(p);
-            }
-            counts[0] = 0;
-            counts[1] = 0;
-            work[0] = 2;
-            work[1] = 0;
-            Answer::Done(p)
-        }
-    }
+    page_ops::copy::copy_page(copies, stored, p as usize);
+    work[layout::REOPENING_PAGE_AT] = p + 1;
+}
+
+// The log becomes empty, and the reopening finished.
+pub fn finish(counts: &mut [u32], work: &mut [u32])
+    requires { ⌜ (countWords ≤ length (now counts)) × (reopeningPageAt < length (now work)) ⌝ }
+    ensures { λ _. ⌜ (now (counts .exit) ≡ set (set (now (counts .entry)) 0 0) 1 0) × (now (work .exit) ≡ set (set (now (work .entry)) reopeningAt finished) reopeningPageAt 0) ⌝ }
+{
+    stability::empty(counts);
+    work[layout::REOPENING_AT] = layout::FINISHED;
+    work[layout::REOPENING_PAGE_AT] = 0;
 }

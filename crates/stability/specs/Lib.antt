@@ -1,2 +1,2 @@
--- The checks of store page and empty log, over the lists that they read.
+-- The checks of force, store page and empty log, as the code makes them.
 pub mod Checks
