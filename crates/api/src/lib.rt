@@ -51,7 +51,7 @@ pub extern "C" fn kophdaen_begin(
     ensures { λ r. ⌜ r ≡ coded (callBegin (areas (now (stored .entry)) (now (copies .entry)) (now (received .entry)) (now (log .entry)) (now (counts .entry)) (now (work .entry))) t .answer) ⌝ }
     ensures { λ _. ⌜ areas (now (stored .exit)) (now (copies .exit)) (now (received .exit)) (now (log .exit)) (now (counts .exit)) (now (work .exit)) ≡ callBegin (areas (now (stored .entry)) (now (copies .entry)) (now (received .entry)) (now (log .entry)) (now (counts .entry)) (now (work .entry))) t .after ⌝ }
 {
-    let a = transactions::begin(stored, copies, received, log, counts, work, t);
+    let a = transaction_calls::begin(stored, copies, received, log, counts, work, t);
     code(a)
 }
 
@@ -69,7 +69,7 @@ pub extern "C" fn kophdaen_commit(
     ensures { λ r. ⌜ r ≡ coded (callCommit (areas (now (stored .entry)) (now (copies .entry)) (now (received .entry)) (now (log .entry)) (now (counts .entry)) (now (work .entry))) t .answer) ⌝ }
     ensures { λ _. ⌜ areas (now (stored .exit)) (now (copies .exit)) (now (received .exit)) (now (log .exit)) (now (counts .exit)) (now (work .exit)) ≡ callCommit (areas (now (stored .entry)) (now (copies .entry)) (now (received .entry)) (now (log .entry)) (now (counts .entry)) (now (work .entry))) t .after ⌝ }
 {
-    let a = transactions::commit(stored, copies, received, log, counts, work, t);
+    let a = transaction_calls::commit(stored, copies, received, log, counts, work, t);
     code(a)
 }
 
@@ -87,7 +87,7 @@ pub extern "C" fn kophdaen_abort(
     ensures { λ r. ⌜ r ≡ coded (callAbort (areas (now (stored .entry)) (now (copies .entry)) (now (received .entry)) (now (log .entry)) (now (counts .entry)) (now (work .entry))) t .answer) ⌝ }
     ensures { λ _. ⌜ areas (now (stored .exit)) (now (copies .exit)) (now (received .exit)) (now (log .exit)) (now (counts .exit)) (now (work .exit)) ≡ callAbort (areas (now (stored .entry)) (now (copies .entry)) (now (received .entry)) (now (log .entry)) (now (counts .entry)) (now (work .entry))) t .after ⌝ }
 {
-    let a = aborts::abort(stored, copies, received, log, counts, work, t);
+    let a = transaction_calls::abort(stored, copies, received, log, counts, work, t);
     code(a)
 }
 
@@ -106,7 +106,7 @@ pub extern "C" fn kophdaen_lock_read(
     ensures { λ r. ⌜ r ≡ coded (callLockRead (areas (now (stored .entry)) (now (copies .entry)) (now (received .entry)) (now (log .entry)) (now (counts .entry)) (now (work .entry))) t p .answer) ⌝ }
     ensures { λ _. ⌜ areas (now (stored .exit)) (now (copies .exit)) (now (received .exit)) (now (log .exit)) (now (counts .exit)) (now (work .exit)) ≡ callLockRead (areas (now (stored .entry)) (now (copies .entry)) (now (received .entry)) (now (log .entry)) (now (counts .entry)) (now (work .entry))) t p .after ⌝ }
 {
-    let a = locks::lock_read(stored, copies, received, log, counts, work, t, p);
+    let a = lock_calls::lock_read(stored, copies, received, log, counts, work, t, p);
     code(a)
 }
 
@@ -125,7 +125,7 @@ pub extern "C" fn kophdaen_lock_write(
     ensures { λ r. ⌜ r ≡ coded (callLockWrite (areas (now (stored .entry)) (now (copies .entry)) (now (received .entry)) (now (log .entry)) (now (counts .entry)) (now (work .entry))) t p .answer) ⌝ }
     ensures { λ _. ⌜ areas (now (stored .exit)) (now (copies .exit)) (now (received .exit)) (now (log .exit)) (now (counts .exit)) (now (work .exit)) ≡ callLockWrite (areas (now (stored .entry)) (now (copies .entry)) (now (received .entry)) (now (log .entry)) (now (counts .entry)) (now (work .entry))) t p .after ⌝ }
 {
-    let a = locks::lock_write(stored, copies, received, log, counts, work, t, p);
+    let a = lock_calls::lock_write(stored, copies, received, log, counts, work, t, p);
     code(a)
 }
 
@@ -146,7 +146,7 @@ pub extern "C" fn kophdaen_read(
     ensures { λ _. ⌜ areas (now (stored .exit)) (now (copies .exit)) (now (received .exit)) (now (log .exit)) (now (counts .exit)) (now (work .exit)) ≡ callRead (areas (now (stored .entry)) (now (copies .entry)) (now (received .entry)) (now (log .entry)) (now (counts .entry)) (now (work .entry))) t o (now (buffer .entry)) .after ⌝ }
     ensures { λ _. ⌜ now (buffer .exit) ≡ bufferAfter (areas (now (stored .entry)) (now (copies .entry)) (now (received .entry)) (now (log .entry)) (now (counts .entry)) (now (work .entry))) t o (now (buffer .entry)) ⌝ }
 {
-    let a = objects::read(stored, copies, received, log, counts, work, buffer, t, o);
+    let a = object_calls::read(stored, copies, received, log, counts, work, buffer, t, o);
     code(a)
 }
 
@@ -165,7 +165,7 @@ pub extern "C" fn kophdaen_create(
     ensures { λ r. ⌜ r ≡ coded (callCreate (areas (now (stored .entry)) (now (copies .entry)) (now (received .entry)) (now (log .entry)) (now (counts .entry)) (now (work .entry))) t o .answer) ⌝ }
     ensures { λ _. ⌜ areas (now (stored .exit)) (now (copies .exit)) (now (received .exit)) (now (log .exit)) (now (counts .exit)) (now (work .exit)) ≡ callCreate (areas (now (stored .entry)) (now (copies .entry)) (now (received .entry)) (now (log .entry)) (now (counts .entry)) (now (work .entry))) t o .after ⌝ }
 {
-    let a = objects::create(stored, copies, received, log, counts, work, t, o);
+    let a = object_calls::create(stored, copies, received, log, counts, work, t, o);
     code(a)
 }
 
@@ -186,7 +186,7 @@ pub extern "C" fn kophdaen_set_word(
     ensures { λ r. ⌜ r ≡ coded (callSet (areas (now (stored .entry)) (now (copies .entry)) (now (received .entry)) (now (log .entry)) (now (counts .entry)) (now (work .entry))) t o f v .answer) ⌝ }
     ensures { λ _. ⌜ areas (now (stored .exit)) (now (copies .exit)) (now (received .exit)) (now (log .exit)) (now (counts .exit)) (now (work .exit)) ≡ callSet (areas (now (stored .entry)) (now (copies .entry)) (now (received .entry)) (now (log .entry)) (now (counts .entry)) (now (work .entry))) t o f v .after ⌝ }
 {
-    let a = objects::set_word(stored, copies, received, log, counts, work, t, o, f, v);
+    let a = object_calls::set_word(stored, copies, received, log, counts, work, t, o, f, v);
     code(a)
 }
 
@@ -206,7 +206,7 @@ pub extern "C" fn kophdaen_flush(
     ensures { λ r. ⌜ r ≡ coded (callFlush (areas (now (stored .entry)) (now (copies .entry)) (now (received .entry)) (now (log .entry)) (now (counts .entry)) (now (work .entry))) t p (now (image .entry)) .answer) ⌝ }
     ensures { λ _. ⌜ areas (now (stored .exit)) (now (copies .exit)) (now (received .exit)) (now (log .exit)) (now (counts .exit)) (now (work .exit)) ≡ callFlush (areas (now (stored .entry)) (now (copies .entry)) (now (received .entry)) (now (log .entry)) (now (counts .entry)) (now (work .entry))) t p (now (image .entry)) .after ⌝ }
 {
-    let a = objects::flush(stored, copies, received, log, counts, work, t, p, image);
+    let a = object_calls::flush(stored, copies, received, log, counts, work, t, p, image);
     code(a)
 }
 
@@ -223,7 +223,7 @@ pub extern "C" fn kophdaen_force(
     ensures { λ r. ⌜ r ≡ coded (callForce (areas (now (stored .entry)) (now (copies .entry)) (now (received .entry)) (now (log .entry)) (now (counts .entry)) (now (work .entry))) .answer) ⌝ }
     ensures { λ _. ⌜ areas (now (stored .exit)) (now (copies .exit)) (now (received .exit)) (now (log .exit)) (now (counts .exit)) (now (work .exit)) ≡ callForce (areas (now (stored .entry)) (now (copies .entry)) (now (received .entry)) (now (log .entry)) (now (counts .entry)) (now (work .entry))) .after ⌝ }
 {
-    let a = stability::force(stored, copies, received, log, counts, work);
+    let a = stability_calls::force(stored, copies, received, log, counts, work);
     code(a)
 }
 
@@ -241,7 +241,7 @@ pub extern "C" fn kophdaen_store_page(
     ensures { λ r. ⌜ r ≡ coded (callStore (areas (now (stored .entry)) (now (copies .entry)) (now (received .entry)) (now (log .entry)) (now (counts .entry)) (now (work .entry))) p .answer) ⌝ }
     ensures { λ _. ⌜ areas (now (stored .exit)) (now (copies .exit)) (now (received .exit)) (now (log .exit)) (now (counts .exit)) (now (work .exit)) ≡ callStore (areas (now (stored .entry)) (now (copies .entry)) (now (received .entry)) (now (log .entry)) (now (counts .entry)) (now (work .entry))) p .after ⌝ }
 {
-    let a = stability::store_page(stored, copies, received, log, counts, work, p);
+    let a = stability_calls::store_page(stored, copies, received, log, counts, work, p);
     code(a)
 }
 
@@ -258,7 +258,7 @@ pub extern "C" fn kophdaen_empty_log(
     ensures { λ r. ⌜ r ≡ coded (callEmpty (areas (now (stored .entry)) (now (copies .entry)) (now (received .entry)) (now (log .entry)) (now (counts .entry)) (now (work .entry))) .answer) ⌝ }
     ensures { λ _. ⌜ areas (now (stored .exit)) (now (copies .exit)) (now (received .exit)) (now (log .exit)) (now (counts .exit)) (now (work .exit)) ≡ callEmpty (areas (now (stored .entry)) (now (copies .entry)) (now (received .entry)) (now (log .entry)) (now (counts .entry)) (now (work .entry))) .after ⌝ }
 {
-    let a = stability::empty_log(stored, copies, received, log, counts, work);
+    let a = stability_calls::empty_log(stored, copies, received, log, counts, work);
     code(a)
 }
 
@@ -275,7 +275,7 @@ pub extern "C" fn kophdaen_start_pass(
     ensures { λ r. ⌜ r ≡ coded (callPass (areas (now (stored .entry)) (now (copies .entry)) (now (received .entry)) (now (log .entry)) (now (counts .entry)) (now (work .entry))) .answer) ⌝ }
     ensures { λ _. ⌜ areas (now (stored .exit)) (now (copies .exit)) (now (received .exit)) (now (log .exit)) (now (counts .exit)) (now (work .exit)) ≡ callPass (areas (now (stored .entry)) (now (copies .entry)) (now (received .entry)) (now (log .entry)) (now (counts .entry)) (now (work .entry))) .after ⌝ }
 {
-    let a = passes::start_pass(stored, copies, received, log, counts, work);
+    let a = pass_calls::start_pass(stored, copies, received, log, counts, work);
     code(a)
 }
 
@@ -292,7 +292,7 @@ pub extern "C" fn kophdaen_pass_step(
     ensures { λ r. ⌜ r ≡ coded (callStep (areas (now (stored .entry)) (now (copies .entry)) (now (received .entry)) (now (log .entry)) (now (counts .entry)) (now (work .entry))) .answer) ⌝ }
     ensures { λ _. ⌜ areas (now (stored .exit)) (now (copies .exit)) (now (received .exit)) (now (log .exit)) (now (counts .exit)) (now (work .exit)) ≡ callStep (areas (now (stored .entry)) (now (copies .entry)) (now (received .entry)) (now (log .entry)) (now (counts .entry)) (now (work .entry))) .after ⌝ }
 {
-    let a = passes::pass_step(stored, copies, received, log, counts, work);
+    let a = pass_calls::pass_step(stored, copies, received, log, counts, work);
     code(a)
 }
 
@@ -309,7 +309,7 @@ pub extern "C" fn kophdaen_reopen(
     ensures { λ r. ⌜ r ≡ coded (callReopen (areas (now (stored .entry)) (now (copies .entry)) (now (received .entry)) (now (log .entry)) (now (counts .entry)) (now (work .entry))) .answer) ⌝ }
     ensures { λ _. ⌜ areas (now (stored .exit)) (now (copies .exit)) (now (received .exit)) (now (log .exit)) (now (counts .exit)) (now (work .exit)) ≡ callReopen (areas (now (stored .entry)) (now (copies .entry)) (now (received .entry)) (now (log .entry)) (now (counts .entry)) (now (work .entry))) .after ⌝ }
 {
-    let a = reopening::reopen(stored, copies, received, log, counts, work);
+    let a = reopening_calls::reopen(stored, copies, received, log, counts, work);
     code(a)
 }
 
@@ -326,6 +326,6 @@ pub extern "C" fn kophdaen_reopen_step(
     ensures { λ r. ⌜ r ≡ coded (callRestep (areas (now (stored .entry)) (now (copies .entry)) (now (received .entry)) (now (log .entry)) (now (counts .entry)) (now (work .entry))) .answer) ⌝ }
     ensures { λ _. ⌜ areas (now (stored .exit)) (now (copies .exit)) (now (received .exit)) (now (log .exit)) (now (counts .exit)) (now (work .exit)) ≡ callRestep (areas (now (stored .entry)) (now (copies .entry)) (now (received .entry)) (now (log .entry)) (now (counts .entry)) (now (work .entry))) .after ⌝ }
 {
-    let a = reopening::restep(stored, copies, received, log, counts, work);
+    let a = reopening_calls::restep(stored, copies, received, log, counts, work);
     code(a)
 }

@@ -4,8 +4,8 @@ ghost use Rattle.areas.specs.Areas.{areas, out};
 ghost use Rattle.bench_run.specs.Bench.{lockCall};
 use areas::Answer;
 use bench_names::LockCall;
-use locks::lock_read;
-use locks::lock_write;
+use lock_calls::lock_read;
+use lock_calls::lock_write;
 
 // Does a call for a lock.
 pub fn lock_call(

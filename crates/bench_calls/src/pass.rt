@@ -18,7 +18,7 @@ pub fn pass_call(
     ensures { λ r. ⌜ out r (now (stored .exit)) (now (copies .exit)) (now (received .exit)) (now (log .exit)) (now (counts .exit)) (now (work .exit)) ≡ passCall (areas (now (stored .entry)) (now (copies .entry)) (now (received .entry)) (now (log .entry)) (now (counts .entry)) (now (work .entry))) c ⌝ }
 {
     match c {
-        PassCall::Pass => passes::start_pass(stored, copies, received, log, counts, work),
-        PassCall::Step => passes::pass_step(stored, copies, received, log, counts, work),
+        PassCall::Pass => pass_calls::start_pass(stored, copies, received, log, counts, work),
+        PassCall::Step => pass_calls::pass_step(stored, copies, received, log, counts, work),
     }
 }

@@ -18,7 +18,21 @@ pub fn reopening_call(
     ensures { λ r. ⌜ out r (now (stored .exit)) (now (copies .exit)) (now (received .exit)) (now (log .exit)) (now (counts .exit)) (now (work .exit)) ≡ reopeningCall (areas (now (stored .entry)) (now (copies .entry)) (now (received .entry)) (now (log .entry)) (now (counts .entry)) (now (work .entry))) c ⌝ }
 {
     match c {
-        ReopeningCall::Reopen => reopening::reopen(stored, copies, received, log, counts, work),
-        ReopeningCall::Restep => reopening::restep(stored, copies, received, log, counts, work),
+        ReopeningCall::Reopen => reopening_calls::reopen(
+            stored,
+            copies,
+            received,
+            log,
+            counts,
+            work,
+        ),
+        ReopeningCall::Restep => reopening_calls::restep(
+            stored,
+            copies,
+            received,
+            log,
+            counts,
+            work,
+        ),
     }
 }

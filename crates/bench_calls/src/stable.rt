@@ -4,9 +4,9 @@ ghost use Rattle.areas.specs.Areas.{areas, out};
 ghost use Rattle.bench_run.specs.Bench.{stabilityCall};
 use areas::Answer;
 use bench_names::StabilityCall;
-use stability::empty_log;
-use stability::force;
-use stability::store_page;
+use stability_calls::empty_log;
+use stability_calls::force;
+use stability_calls::store_page;
 
 // Does a call that makes something stable.
 pub fn stability_call(

@@ -4,8 +4,8 @@ ghost use Rattle.areas.specs.Areas.{areas, out};
 ghost use Rattle.bench_run.specs.Bench.{transactionCall};
 use areas::Answer;
 use bench_names::TransactionCall;
-use transactions::begin;
-use transactions::commit;
+use transaction_calls::begin;
+use transaction_calls::commit;
 
 // Does a call of a transaction.
 pub fn transaction_call(
@@ -22,6 +22,14 @@ pub fn transaction_call(
     match c {
         TransactionCall::Begin(t) => begin(stored, copies, received, log, counts, work, t),
         TransactionCall::Commit(t) => commit(stored, copies, received, log, counts, work, t),
-        TransactionCall::Abort(t) => aborts::abort(stored, copies, received, log, counts, work, t),
+        TransactionCall::Abort(t) => transaction_calls::abort(
+            stored,
+            copies,
+            received,
+            log,
+            counts,
+            work,
+            t,
+        ),
     }
 }

@@ -5,8 +5,8 @@ ghost use Rattle.bench_names.specs.declared.ObjectCall.the-variants.{Flush, Rea
 ghost use Rattle.bench_run.specs.Bench.{objectCall};
 use areas::Answer;
 use bench_names::ObjectCall;
-use objects::create;
-use objects::set_word;
+use object_calls::create;
+use object_calls::set_word;
 
 // The words of an object.
 const OBJECT_WORDS: usize = 8;
@@ -25,7 +25,7 @@ fn flush_received(
     ensures { λ r. ⌜ out r (now (stored .exit)) (now (copies .exit)) (now (received .exit)) (now (log .exit)) (now (counts .exit)) (now (work .exit)) ≡ objectCall (areas (now (stored .entry)) (now (copies .entry)) (now (received .entry)) (now (log .entry)) (now (counts .entry)) (now (work .entry))) (Flush t p) ⌝ }
 {
     let image = bench_images::page_sent(received, p);
-    objects::flush(stored, copies, received, log, counts, work, t, p, &image)
+    object_calls::flush(stored, copies, received, log, counts, work, t, p, &image)
 }
 
 // Reads object o; an output line shows its word 0 only.
@@ -42,7 +42,7 @@ fn read_object(
     ensures { λ r. ⌜ out r (now (stored .exit)) (now (copies .exit)) (now (received .exit)) (now (log .exit)) (now (counts .exit)) (now (work .exit)) ≡ objectCall (areas (now (stored .entry)) (now (copies .entry)) (now (received .entry)) (now (log .entry)) (now (counts .entry)) (now (work .entry))) (Read t o) ⌝ }
 {
     let mut buffer = [0u32; OBJECT_WORDS];
-    objects::read(
+    object_calls::read(
         stored,
         copies,
         received,
