@@ -1,4 +1,5 @@
 use Rattle.acceptance.specs.Entered.{formed-sized}
+use Rattle.areas.specs.Layout.{reopeningAt, reopeningPageAt}
 use Rattle.reopening.specs.Steps.{step-refused, step-stores, step-ends}
 use mathlib.Core.Path.{sym, _∙_}
 use native.Mathlib.Omega.{arith}
@@ -13,7 +14,7 @@ slice-read-p : tie.Need-slice-read-p
 slice-read-p c = let h = formed-sized _ _ (c .before .before .before .before .before .before .before .before .before .before .before .pre) in omega arith
 
 cast-if1 : tie.Need-cast-if1
-cast-if1 c = omega (arith, c .slice-known4 .given 1)
+cast-if1 c = omega (arith, c .slice-known4 .given reopeningAt, c .slice-known4 .given reopeningPageAt)
 
 store-next-requires : tie.Need-store-next-requires
 store-next-requires c κs = let h = formed-sized _ _ (c .before .before .before .before .before .before .before .before .before .before .before .before .before .before .pre) in let l = c .before .before .if1 .taken in (omega arith, omega arith, omega arith, omega arith)

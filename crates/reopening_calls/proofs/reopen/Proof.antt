@@ -14,7 +14,7 @@ slice-read-stable : tie.Need-slice-read-stable
 slice-read-stable c = let h = lengths-facts _ _ _ _ _ _ (sym (c .before .before .lengths-fit .ensures) ∙ not-false _ (c .before .if1 .left)) in omega arith
 
 cast-stable : tie.Need-cast-stable
-cast-stable c = omega (arith, c .slice-known5 .given 1)
+cast-stable c = omega (arith, c .slice-known5 .given 0, c .slice-known5 .given 1)
 
 find-open-requires : tie.Need-find-open-requires
 find-open-requires c κs = let h = lengths-facts _ _ _ _ _ _ (sym (c .before .before .lengths-fit .ensures) ∙ not-false _ (c .before .if1 .left)) in (h .low, h .top, h .stored-len, h .log-len)
