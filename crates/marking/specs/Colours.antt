@@ -1,35 +1,28 @@
 -- The loops over the colours: the first ones, the search for a grey one, and the targets that turn grey. n is the number of pages.
 -- Assumes nothing.
-use Prim.Native.Nat.{ℕ, zero, suc, _+_, _*_, _<_, _≤_}
+use Prim.Native.Nat.{ℕ, suc, _+_, _<_, _≤_}
 use mathlib.Core.Path.{_≡_, refl, sym, ap, _∙_}
-use mathlib.Core.Bool.{Bool, true, false, not, _||_}
+use mathlib.Core.Bool.{Bool, true, false, not, _&&_, _||_}
 use mathlib.Core.List.{List}
-use lib.ListN.{getD, set}
+use lib.ListN.{set}
 use lib.Dec.{eqb}
 use native.Mathlib.Numerals.{add-one}
 use native.Mathlib.Omega.{arith}
-use borrow.Author.Tests.{le-leb, eq-eqb, ne-eqb, lt-ltb}
+use borrow.Author.Tests.{eq-eqb, ne-eqb}
 use Rattle.words.specs.Tests.{if, if-t, if-f, lowest, lowest-next, lowest-found}
 use Rattle.words.specs.Spans.{fill, fill-outside}
-use Rattle.pages.specs.Geometry.{root, isRefAt}
+use Rattle.pages.specs.Geometry.{slotWords, objectCount, root, isRef}
 use Rattle.pages.specs.Objects.{occupied, wordOf}
 use Rattle.page_laws.specs.Runs.{fill-turn}
-use Rattle.areas.specs.Layout.{prunedAt, colourAt}
-use Rattle.areas.specs.Tables.{at, flag, isGrey, coloured, greyed, withPass}
+use Rattle.areas.specs.Layout.{prunedAt, createdAt, colourAt}
+use Rattle.areas.specs.Tables.{at, flag, isGrey, passFirst, mayMark, greyed, withPass}
 use Rattle.calls.specs.Transactions.{leaves}
 use Rattle.calls.specs.Pass.{unflagged, passStarted, firstColour, lowestGrey, targetsGreyed, scanned}
 
--- the first colour of an object whose PRT mask is m
-abbrev pub colourBy : ℕ → Bool → ℕ
-colourBy m isRoot = if (isRoot || not (eqb m 0)) 1 0
-
-is-root : (k : ℕ) → eqb (k + 1) root ≡ eqb k 0
-is-root zero = refl
-is-root (suc k) = ne-eqb (suc k + 1) 1 (λ e. omega arith) ∙ sym (ne-eqb (suc k) 0 (λ e. omega arith))
-
-first-colour : (w : List ℕ) (n k : ℕ) → k < 16 * n → firstColour w n (k + 1) ≡ colourBy (getD w (6 + 19 * n + k) 0) (eqb k 0)
-first-colour w n k l = let e : prunedAt n (k + 1) ≡ 6 + 19 * n + k = omega arith in
-    rw (le-leb 1 (k + 1) (omega arith), le-leb (k + 1) (16 * n) (omega arith), is-root k, e)
+-- the first colour of object o as the code finds it: b, whether the pass may mark it, and i, where its PRT mask stands
+pub first-by : (w : List ℕ) (n o i : ℕ) (b x : Bool) → b ≡ mayMark w n o → i ≡ prunedAt n o → b && (eqb o root || not (eqb (at w i) 0)) ≡ x
+    → if x 1 0 ≡ firstColour w n o
+first-by w n o i b x e place h = rw (← h, e, place)
 
 -- the colours of the first k objects
 unfoldable pub firstColours : List ℕ → ℕ → ℕ → List ℕ
@@ -40,32 +33,33 @@ module _ (w : List ℕ) (n : ℕ) where
   unfolding firstColours fill
   first-none = refl
 
-  pub first-next : (k : ℕ) (x : List ℕ) (v : ℕ) → x ≡ firstColours w n k → k < 16 * n → v ≡ colourBy (getD x (6 + 19 * n + k) 0) (eqb k 0)
-      → set x (6 + 51 * n + k) v ≡ firstColours w n (k + 1)
+  -- the first colour reads no colour
+  first-kept : (k : ℕ) (x : List ℕ) → x ≡ firstColours w n k → k < objectCount n → firstColour x n (k + 1) ≡ firstColour w n (k + 1)
   unfolding firstColours
-  first-next k x v h l e =
-      let kept : getD x (6 + 19 * n + k) 0 ≡ getD w (6 + 19 * n + k) 0 =
-      ap (λ (y : List ℕ). getD y (6 + 19 * n + k) 0) h ∙ fill-outside (λ j. firstColour w n (j + 1)) w (colourAt n 1) k (6 + 19 * n + k) 0 (λ j m z. omega arith) in
-      let colour : v ≡ firstColour w n (k + 1) = e ∙ ap (λ (m : ℕ). colourBy m (eqb k 0)) kept ∙ sym (first-colour w n k l) in
-      let place : 6 + 51 * n + k ≡ colourAt n 1 + k = omega arith in
-      rw (colour, place) (fill-turn (λ j. firstColour w n (j + 1)) w (colourAt n 1) k x h)
+  first-kept k x h l =
+      let kept : at x (prunedAt n (k + 1)) ≡ at w (prunedAt n (k + 1)) =
+      ap (λ (y : List ℕ). at y (prunedAt n (k + 1))) h
+      ∙ fill-outside (λ j. firstColour w n (j + 1)) w (colourAt n 1) k (prunedAt n (k + 1)) 0 (λ j m z. omega arith) in
+      rw kept
+
+  -- i: where the code finds the colour
+  pub first-next : (k : ℕ) (x : List ℕ) (v i : ℕ) → x ≡ firstColours w n k → k < objectCount n → v ≡ firstColour x n (k + 1) → i ≡ colourAt n (k + 1)
+      → set x i v ≡ firstColours w n (k + 1)
+  unfolding firstColours
+  first-next k x v i h l e place =
+      let at-k : i ≡ colourAt n 1 + k = omega arith in
+      rw (e ∙ first-kept k x h l, at-k) (fill-turn (λ j. firstColour w n (j + 1)) w (colourAt n 1) k x h)
 
 -- the start of a pass: the flags go, the colours, the pass record
-flags-gone : (w : List ℕ) (n : ℕ) → leaves flag (leaves flag w (6 + 19 * n) (16 * n)) (6 + 35 * n) (16 * n) ≡ unflagged w n
-unfolding unflagged
-flags-gone w n =
-    ap (λ (a : ℕ). leaves flag (leaves flag w a (16 * n)) (6 + 35 * n) (16 * n)) (omega arith)
-    ∙ ap (λ (a : ℕ). leaves flag (leaves flag w (prunedAt n 1) (16 * n)) a (16 * n)) (omega arith)
-
-all-coloured : (w : List ℕ) (n : ℕ) → withPass (firstColours (unflagged w n) n (16 * n)) 1 0 0 ≡ passStarted w n
+all-coloured : (w : List ℕ) (n : ℕ) → withPass (firstColours (unflagged w n) n (objectCount n)) 1 (passFirst w n) 0 ≡ passStarted w n
 unfolding passStarted firstColours
 all-coloured w n = refl
 
-pub pass-started : (w u v x : List ℕ) (n : ℕ) → u ≡ leaves flag w (6 + 19 * n) (16 * n) → v ≡ leaves flag u (6 + 35 * n) (16 * n) → x ≡ firstColours v n (16 * n)
-    → withPass x 1 0 0 ≡ passStarted w n
-pass-started w u v x n eu ev ex =
-    let gone : v ≡ unflagged w n = ev ∙ ap (λ (y : List ℕ). leaves flag y (6 + 35 * n) (16 * n)) eu ∙ flags-gone w n in
-    ap (λ (y : List ℕ). withPass y 1 0 0) (ex ∙ ap (λ (y : List ℕ). firstColours y n (16 * n)) gone) ∙ all-coloured w n
+-- i and j: where the code finds the tables
+pub pass-started : (w u v x : List ℕ) (n i j first : ℕ) → first ≡ passFirst w n → i ≡ prunedAt n 1 → j ≡ createdAt n 1 → u ≡ leaves flag w i (objectCount n)
+    → v ≡ leaves flag u j (objectCount n) → x ≡ firstColours v n (objectCount n) → withPass x 1 first 0 ≡ passStarted w n
+unfolding unflagged
+pass-started w u v x n i j first from ei ej eu ev ex = rw (from, ex, ev, ej, eu, ei) (all-coloured w n)
 
 -- the search for the lowest grey object, while there is none among the first k
 unfoldable pub noneGrey : List ℕ → ℕ → ℕ → Type 0
@@ -76,18 +70,17 @@ module _ (w : List ℕ) (n : ℕ) where
   unfolding noneGrey lowest
   grey-none = refl
 
-  colour-of : (k : ℕ) → colourAt n (k + 1) ≡ 6 + 51 * n + k
-  colour-of k = omega arith
-
-  pub grey-next : (k : ℕ) → noneGrey w n k → (getD w (6 + 51 * n + k) 0 ≡ 1 → ⊥) → noneGrey w n (k + 1)
+  -- i: where the code finds the colour of object k + 1
+  pub grey-next : (k i : ℕ) → noneGrey w n k → i ≡ colourAt n (k + 1) → (at w i ≡ 1 → ⊥) → noneGrey w n (k + 1)
   unfolding noneGrey
-  grey-next k h e = lowest-next (λ j. isGrey w n (j + 1)) k h (rw (colour-of k) (ne-eqb (getD w (6 + 51 * n + k) 0) 1 e))
+  grey-next k i h place e = lowest-next (λ j. isGrey w n (j + 1)) k h (rw (← place) (ne-eqb (at w i) 1 e))
 
-  pub grey-found : (k : ℕ) → noneGrey w n k → k < 16 * n → getD w (6 + 51 * n + k) 0 ≡ 1 → k + 1 ≡ lowestGrey w n
+  pub grey-found : (k i : ℕ) → noneGrey w n k → k < objectCount n → i ≡ colourAt n (k + 1) → at w i ≡ 1 → k + 1 ≡ lowestGrey w n
   unfolding noneGrey lowestGrey
-  grey-found k h l e = ap (λ (j : ℕ). j + 1) (sym (lowest-found (λ j. isGrey w n (j + 1)) (16 * n) k l h (rw (colour-of k) (eq-eqb (getD w (6 + 51 * n + k) 0) 1 e))))
+  grey-found k i h l place e =
+      ap (λ (j : ℕ). j + 1) (sym (lowest-found (λ j. isGrey w n (j + 1)) (objectCount n) k l h (rw (← place) (eq-eqb (at w i) 1 e))))
 
-  pub grey-end : (k : ℕ) → noneGrey w n k → k ≡ 16 * n → 16 * n + 1 ≡ lowestGrey w n
+  pub grey-end : (k : ℕ) → noneGrey w n k → k ≡ objectCount n → objectCount n + 1 ≡ lowestGrey w n
   unfolding noneGrey lowestGrey
   grey-end k h e = ap (λ (j : ℕ). j + 1) (sym (rw e at h))
 
@@ -95,11 +88,23 @@ module _ (w : List ℕ) (n : ℕ) where
   unfolding lowestGrey
   grey-from o e = omega arith
 
+-- what word f of object o turns grey: its target, if it is a reference
+unfoldable pub targetGreyed : List ℕ → List ℕ → ℕ → ℕ → ℕ → List ℕ
+targetGreyed c w n o f = if (isRef c o f) (greyed w n (wordOf c o f)) w
+
 -- the targets of object o that turn grey: none of a free slot
 unfoldable pub targetsOf : List ℕ → List ℕ → ℕ → ℕ → List ℕ
-targetsOf c w n o = if (occupied c o) (targetsGreyed c w n o 8) w
+targetsOf c w n o = if (occupied c o) (targetsGreyed c w n o slotWords) w
 
 module _ (c w : List ℕ) (n o : ℕ) where
+  pub target-none : (f : ℕ) → isRef c o f ≡ false → w ≡ targetGreyed c w n o f
+  unfolding targetGreyed
+  target-none f e = sym (if-f _ _ _ e)
+
+  pub target-one : (f : ℕ) (x : List ℕ) (v : ℕ) → isRef c o f ≡ true → v ≡ wordOf c o f → x ≡ greyed w n v → x ≡ targetGreyed c w n o f
+  unfolding targetGreyed
+  target-one f x v e word h = h ∙ rw word (sym (if-t _ _ _ e))
+
   pub targets-free : occupied c o ≡ false → w ≡ targetsOf c w n o
   unfolding targetsOf
   targets-free e = sym (if-f _ _ _ e)
@@ -108,22 +113,17 @@ module _ (c w : List ℕ) (n o : ℕ) where
   unfolding targetsGreyed
   targets-none = refl
 
-  targets-more : (f : ℕ) → f < 4 → greyed (targetsGreyed c w n o f) n (wordOf c o f) ≡ targetsGreyed c w n o (suc f)
-  unfolding targetsGreyed isRefAt
-  targets-more f l = sym (if-t _ _ _ (lt-ltb f 4 l))
+  targets-more : (f : ℕ) → targetGreyed c (targetsGreyed c w n o f) n o f ≡ targetsGreyed c w n o (suc f)
+  unfolding targetsGreyed targetGreyed
+  targets-more f = refl
 
-  pub targets-next : (f : ℕ) (x y : List ℕ) → x ≡ targetsGreyed c w n o f → f < 4 → y ≡ greyed x n (wordOf c o f) → y ≡ targetsGreyed c w n o (f + 1)
-  targets-next f x y h l e = e ∙ ap (λ (v : List ℕ). greyed v n (wordOf c o f)) h ∙ targets-more f l ∙ ap (targetsGreyed c w n o) (sym (add-one f))
+  pub targets-next : (f : ℕ) (x y : List ℕ) → x ≡ targetsGreyed c w n o f → y ≡ targetGreyed c x n o f → y ≡ targetsGreyed c w n o (f + 1)
+  targets-next f x y h e = e ∙ ap (λ (v : List ℕ). targetGreyed c v n o f) h ∙ targets-more f ∙ ap (targetsGreyed c w n o) (sym (add-one f))
 
-  -- only the first four words are references
-  four-words : targetsGreyed c w n o 4 ≡ targetsGreyed c w n o 8
-  unfolding targetsGreyed isRefAt
-  four-words = refl
-
-  pub targets-end : (f : ℕ) (x : List ℕ) → x ≡ targetsGreyed c w n o f → f ≡ 4 → occupied c o ≡ true → x ≡ targetsOf c w n o
+  pub targets-end : (f : ℕ) (x : List ℕ) → x ≡ targetsGreyed c w n o f → f ≡ slotWords → occupied c o ≡ true → x ≡ targetsOf c w n o
   unfolding targetsOf
-  targets-end f x h e t = h ∙ ap (targetsGreyed c w n o) e ∙ four-words ∙ sym (if-t _ _ _ t)
+  targets-end f x h e t = h ∙ ap (targetsGreyed c w n o) e ∙ sym (if-t _ _ _ t)
 
-  pub scanned-by : (x : List ℕ) → x ≡ targetsOf c w n o → coloured x n o 2 ≡ scanned c w n o
+  pub scanned-by : (x : List ℕ) (i : ℕ) → x ≡ targetsOf c w n o → i ≡ colourAt n o → set x i 2 ≡ scanned c w n o
   unfolding targetsOf scanned
-  scanned-by x h = ap (λ (v : List ℕ). coloured v n o 2) h
+  scanned-by x i h place = rw (place, h)

@@ -1,2 +1,2 @@
--- A pass step from its parts.
+-- What a pass step asks of a store, and the step from its parts.
 pub mod Stepping

@@ -1,82 +1,88 @@
--- A pass step from its parts: refused, marking, or sweeping. n is the number of pages. Assumes nothing.
-use Prim.Native.Nat.{ℕ, _+_, _*_, _<_, _≤_}
+-- What a pass step asks of a store, and the step from its parts: marking or sweeping. n is the number of pages. Assumes nothing.
+use Prim.Native.Nat.{ℕ, _*_, _<_, _≤_}
 use mathlib.Core.Path.{_≡_, sym, ap, _∙_}
-use mathlib.Core.Bool.{Bool, not}
-use mathlib.Core.List.{List}
-use lib.ListN.{length, getD}
+use mathlib.Core.Bool.{not}
+use mathlib.Core.List.{List, []}
+use lib.ListN.{length}
 use native.Mathlib.Omega.{arith}
 use borrow.Author.Tests.{eq-eqb, ne-eqb}
-use Rattle.words.specs.Tests.{if, if-t, if-f}
-use Rattle.words.specs.Bits.{slotsSet}
+use Rattle.words.specs.Tests.{if-t, if-f}
+use Rattle.pages.specs.Geometry.{maxPages, mapTop, pageAt}
 use Rattle.pages.specs.Objects.{mapAt}
 use Rattle.page_laws.specs.SoundFacts.{sound-facts}
-use Rattle.areas.specs.declared.Refusal.{Refusal}
+use Rattle.records.specs.Records.{recordWords, maxRecords}
 use Rattle.areas.specs.declared.Refusal.the-variants.{WrongState}
 use Rattle.areas.specs.declared.Answer.the-variants.{Done}
-use Rattle.areas.specs.declared.Check.the-variants.{Pass, Refuse}
-use Rattle.areas.specs.Answers.{need-holds, need-fails}
-use Rattle.areas.specs.Areas.{Areas, Out, areas, out, done, refused, checked, checked-pass, checked-refuse}
-use Rattle.areas.specs.Layout.{phaseAt, passPageAt}
-use Rattle.areas.specs.Tables.{at, passRuns, isMarking}
-use Rattle.calls.specs.Pass.{passCheck, marked, freedMap, sweepCheck, swept, stepCheck}
+use Rattle.areas.specs.declared.Check.the-variants.{Accept, Refuse}
+use Rattle.areas.specs.Answers.{verdict, need-holds, need-fails, all-passed}
+use Rattle.areas.specs.Areas.{Areas, Out, areas, out}
+use Rattle.areas.specs.Layout.{HasTables, phaseAt, passPageAt}
+use Rattle.areas.specs.Tables.{at}
+use Rattle.calls.specs.Pass.{passTests, stepTests, swept}
 use Rattle.acceptance.specs.Entered.{Open}
-use Rattle.acceptance.specs.Pass.{sweep-facts}
+use Rattle.acceptance.specs.Pass.{stepped}
+use Rattle.store_ops.specs.Logs.{Kept, open-kept}
+use Rattle.pass_record.specs.declared.Pass.{Pass}
+use Rattle.pass_record.specs.Step.{passOf, own-phase, own-page}
 use Rattle.marking.specs.Steps.{markValue, markWork, marked-as}
-use Rattle.sweeping.specs.Sweeps.{freedIn, freed-in, sweepNeeds, sweep-needs, sweptAreas}
 
--- the start's own test
-pub start-runs : (s : Areas) → (at (s .work) phaseAt ≡ 0 → ⊥) → passCheck s ≡ Refuse WrongState
-unfolding passCheck
-start-runs s h = sym (need-fails (not (passRuns (s .work))) WrongState Pass (ap (λ (b : Bool). not (not b)) (ne-eqb _ _ h)))
+-- the copies c, received pages r, log g, counts k and working tables w
+pub record Steppable (c r g k w : List ℕ) (n : ℕ) : Type 0 where
+  pub tables : HasTables w n
+  pub page : at w passPageAt < n
+  pub copies-in : pageAt n ≤ length c
+  pub received-in : pageAt n ≤ length r
+  pub map : mapAt c (at w passPageAt) ≤ mapTop
+  pub kept : Kept g k
+  pub log-top : length g ≤ recordWords * maxRecords
 
-pub start-idle : (s : Areas) → at (s .work) phaseAt ≡ 0 → passCheck s ≡ Pass
-unfolding passCheck
-start-idle s h = sym (need-holds (not (passRuns (s .work))) WrongState Pass (ap (λ (b : Bool). not (not b)) (eq-eqb _ _ h)))
+pub open-steppable : (s : Areas) (n : ℕ) → Open s n → Steppable (s .copies) (s .received) (s .log) (s .counts) (s .work) n
+open-steppable s n o =
+    let z = o .sized in
+    let p = o .ranged .working .pass-page in
+    let m = sound-facts (s .copies) n (o .ranged .copies-sound) .map (at (s .work) passPageAt) p in
+    record {
+      tables = z .tables;
+      page = p;
+      copies-in = omega arith;
+      received-in = omega arith;
+      map = omega arith;
+      kept = open-kept s n o;
+      log-top = omega arith;
+    }
 
-pub started-out : (s c r g k w : List ℕ) {x : List ℕ} → x ≡ w → out (Done 0) s c r g k x ≡ out (Done 0) s c r g k w
-started-out s c r g k w e = rw e
+-- refusal 4, of the working tables
+module _ (w : List ℕ) where
+  pub start-runs : (at w phaseAt ≡ 0 → ⊥) → Refuse WrongState ≡ verdict (passTests (areas [] [] [] [] [] w))
+  unfolding passTests
+  start-runs h = need-fails _ _ _ _ (ap (λ b. not (not b)) (ne-eqb _ _ h))
 
--- a step once refusals 1 and 2 are past
-abbrev pub stepFrom : Areas → ℕ → Out
-stepFrom s n = checked (stepCheck s) s (if (isMarking (s .work)) (marked s n) (swept s n))
+  pub start-idle : at w phaseAt ≡ 0 → Accept ≡ verdict (passTests (areas [] [] [] [] [] w))
+  unfolding passTests
+  start-idle h = all-passed ∙ need-holds _ _ _ _ (ap (λ b. not (not b)) (eq-eqb _ _ h))
 
-pub step-idle : (s : Areas) (n : ℕ) → at (s .work) phaseAt ≡ 0 → refused WrongState s ≡ stepFrom s n
-unfolding stepCheck
-step-idle s n h = checked-refuse _ _ _ _ (sym (need-fails (passRuns (s .work)) WrongState Pass (ap not (eq-eqb _ _ h))))
+  pub step-idle : at w phaseAt ≡ 0 → Refuse WrongState ≡ verdict (stepTests (areas [] [] [] [] [] w))
+  unfolding stepTests
+  step-idle h = need-fails _ _ _ _ (ap not (eq-eqb _ _ h))
 
-module _ (s c r g k w : List ℕ) (n : ℕ) (runs : at w phaseAt ≡ 0 → ⊥) where
-  running : stepCheck (areas s c r g k w) ≡ Pass
-  unfolding stepCheck
-  running = sym (need-holds (passRuns w) WrongState Pass (ap not (ne-eqb (at w phaseAt) 0 runs)))
+  pub step-runs : (at w phaseAt ≡ 0 → ⊥) → Accept ≡ verdict (stepTests (areas [] [] [] [] [] w))
+  unfolding stepTests
+  step-runs h = all-passed ∙ need-holds _ _ _ _ (ap not (ne-eqb _ _ h))
 
-  pub step-marks : (v : ℕ) (w′ : List ℕ) → at w phaseAt ≡ 1 → v ≡ markValue w n → w′ ≡ markWork c w n → out (Done v) s c r g k w′ ≡ stepFrom (areas s c r g k w) n
-  step-marks v w′ h e f =
-      rw (e, f) (marked-as (areas s c r g k w) n) ∙ sym (if-t _ _ _ (eq-eqb (at w phaseAt) 1 h)) ∙ checked-pass _ _ _ running
+-- p is the pass record
+module _ (c r g k w : List ℕ) (n : ℕ) (p : Pass) (own : p ≡ passOf w) where
+  module _ (z : Steppable c r g k w n) where
+    pub page-below : p .page < n
+    page-below = let e = own-page w p own in let l = z .page in omega arith
 
-  module _ (sweeps : at w phaseAt ≡ 1 → ⊥) (p m : ℕ) (page : p ≡ at w passPageAt) (freed : m ≡ freedIn c w n p) where
-    by-sweep : (o : Out) → o ≡ swept (areas s c r g k w) n → o ≡ stepFrom (areas s c r g k w) n
-    by-sweep o e = e ∙ sym (if-f _ _ _ (ne-eqb (at w phaseAt) 1 sweeps)) ∙ checked-pass _ _ _ running
+    pub page-top : p .page < maxPages
+    page-top = let l = page-below in let t = z .tables in omega arith
 
-    map-freed : m ≡ freedMap (areas s c r g k w) n (at w passPageAt)
-    map-freed = freed ∙ ap (freedIn c w n) page ∙ freed-in s c r g k w n (at w passPageAt)
+    pub map-below : mapAt c (p .page) ≤ mapTop
+    map-below = rw (own-page w p own) (z .map)
 
-    pub step-full : (x : Refusal) → sweepNeeds g k w m ≡ Refuse x → refused x (areas s c r g k w) ≡ stepFrom (areas s c r g k w) n
-    unfolding swept
-    step-full x h = by-sweep _ (checked-refuse _ _ _ _ (ap (sweepCheck (areas s c r g k w)) (sym map-freed) ∙ sym (sweep-needs s c r g k w m) ∙ h))
+  pub step-marks : (s : List ℕ) (v : ℕ) (w′ : List ℕ) → p .phase ≡ 1 → v ≡ markValue w n → w′ ≡ markWork c w n → out (Done v) s c r g k w′ ≡ stepped (areas s c r g k w) n
+  step-marks s v w′ h e f = rw (e, f) (marked-as (areas s c r g k w) n) ∙ sym (if-t _ _ _ (eq-eqb (at w phaseAt) 1 (sym (own-phase w p own) ∙ h)))
 
-    pub step-sweeps : (v : ℕ) (a : Areas) → sweepNeeds g k w m ≡ Pass → v ≡ slotsSet m → a ≡ sweptAreas (areas s c r g k w) n p m
-        → done v a ≡ stepFrom (areas s c r g k w) n
-    unfolding swept sweptAreas
-    step-sweeps v a h e f = by-sweep _ (rw (e, f, page, map-freed)
-        (checked-pass _ _ _ (ap (sweepCheck (areas s c r g k w)) (sym map-freed) ∙ sym (sweep-needs s c r g k w m) ∙ h)))
-
--- what the code of a sweeping step needs
-module _ (s c r g k w : List ℕ) (n : ℕ) (o : Open (areas s c r g k w) n) where
-  pub page-below : (p : ℕ) → p ≡ at w passPageAt → p < n
-  page-below p e = let l = o .ranged .working .pass-page in omega arith
-
-  pub map-below : (p : ℕ) → p ≡ at w passPageAt → mapAt c p < 65536
-  map-below p e = sound-facts c n (o .ranged .copies-sound) .map p (page-below p e)
-
-  pub record-fits : (m : ℕ) → sweepNeeds g k w m ≡ Pass → (m ≡ 0 → ⊥) → (getD k 0 0 < 4096) × (6 * getD k 0 0 + 6 ≤ length g)
-  record-fits m h some = let f = sweep-facts (areas s c r g k w) m (sym (sweep-needs s c r g k w m) ∙ h) .room some in omega arith
+  pub step-sweeps : (s : List ℕ) (o : Out) → (p .phase ≡ 1 → ⊥) → o ≡ swept (areas s c r g k w) n → o ≡ stepped (areas s c r g k w) n
+  step-sweeps s o h e = e ∙ sym (if-f _ _ _ (ne-eqb (at w phaseAt) 1 (λ x. h (own-phase w p own ∙ x))))

@@ -1,74 +1,56 @@
-// The pass: its start and its steps.
+// Whether a pass runs, which its start and its steps test, and one step: of marking or of sweeping.
 ghost use mathlib.Core.Path.{_≡_};
+ghost use mathlib.Core.List.{List, []};
+ghost use Prim.Native.Nat.{ℕ, _<_};
+ghost use lib.ListN.{length};
+ghost use Rattle.areas.specs.Answers.{verdict};
 ghost use Rattle.areas.specs.Areas.{areas, out};
-ghost use Rattle.calls.specs.Pass.{callPass, callStep};
+ghost use Rattle.areas.specs.Layout.{phaseAt};
+ghost use Rattle.calls.specs.Pass.{passTests, stepTests};
+ghost use Rattle.acceptance.specs.Pass.{stepped};
+ghost use Rattle.passes.specs.Stepping.{Steppable};
 use areas::Answer;
 use areas::Check;
-use areas::Ready;
 use areas::Refusal;
+use areas::layout;
 
-// Starts a pass.
-pub fn start_pass(
-    stored: &[u32],
-    copies: &[u32],
-    received: &[u32],
-    log: &[u32],
-    counts: &[u32],
-    work: &mut [u32],
-) -> Answer
-    ensures { λ r. ⌜ out r (now (stored .exit)) (now (copies .exit)) (now (received .exit)) (now (log .exit)) (now (counts .exit)) (now (work .exit)) ≡ callPass (areas (now (stored .entry)) (now (copies .entry)) (now (received .entry)) (now (log .entry)) (now (counts .entry)) (now (work .entry))) ⌝ }
+// Refusal 4 of a pass: one runs.
+pub fn start_check(work: &[u32]) -> Check
+    requires { ⌜ phaseAt < length (now work) ⌝ }
+    ensures { λ r. ⌜ r ≡ verdict (passTests (areas [] [] [] [] [] (now (work .entry)))) ⌝ }
 {
-    let e = entry::entry_check(stored, copies, received, log, counts, work, true, true);
-    match e {
-        Ready::Not(x) => Answer::Refused(x),
-        Ready::Go(n) => {
-            let pass = pass_record::pass_of(work);
-            if pass.phase != 0 {
-                return Answer::Refused(Refusal::WrongState);
-            }
-            marking::begin_pass(work, n);
-            Answer::Done(0)
-        }
+    if work[layout::PHASE_AT] != 0 {
+        return Check::Refuse(Refusal::WrongState);
     }
+    Check::Accept
+}
+
+// Refusal 4 of a step: no pass runs.
+pub fn step_check(work: &[u32]) -> Check
+    requires { ⌜ phaseAt < length (now work) ⌝ }
+    ensures { λ r. ⌜ r ≡ verdict (stepTests (areas [] [] [] [] [] (now (work .entry)))) ⌝ }
+{
+    if work[layout::PHASE_AT] == 0 {
+        return Check::Refuse(Refusal::WrongState);
+    }
+    Check::Accept
 }
 
 // One step of the pass that runs: an object scanned, or a page swept. Answers the object or the number of slots freed.
-pub fn pass_step(
-    stored: &[u32],
+pub fn step_apply(
     copies: &mut [u32],
     received: &mut [u32],
     log: &mut [u32],
     counts: &mut [u32],
     work: &mut [u32],
+    n: usize,
 ) -> Answer
-    ensures { λ r. ⌜ out r (now (stored .exit)) (now (copies .exit)) (now (received .exit)) (now (log .exit)) (now (counts .exit)) (now (work .exit)) ≡ callStep (areas (now (stored .entry)) (now (copies .entry)) (now (received .entry)) (now (log .entry)) (now (counts .entry)) (now (work .entry))) ⌝ }
+    requires { ⌜ Steppable (now copies) (now received) (now log) (now counts) (now work) n ⌝ }
+    ensures { λ r. ⌜ ((s : List ℕ) → out r s (now (copies .exit)) (now (received .exit)) (now (log .exit)) (now (counts .exit)) (now (work .exit)) ≡ stepped (areas s (now (copies .entry)) (now (received .entry)) (now (log .entry)) (now (counts .entry)) (now (work .entry))) n) ⌝ }
 {
-    let e = entry::entry_check(stored, copies, received, log, counts, work, true, true);
-    match e {
-        Ready::Not(x) => Answer::Refused(x),
-        Ready::Go(n) => {
-            let pass = pass_record::pass_of(work);
-            if pass.phase == 0 {
-                return Answer::Refused(Refusal::WrongState);
-            }
-            if pass.phase == 1 {
-                return Answer::Done(marking::mark_step(copies, work, n, pass));
-            }
-            let m = sweeping::freed_map(copies, work, n, pass.page as usize);
-            let k = sweeping::sweep_check(log, counts, work, m);
-            match k {
-                Check::Refuse(x) => Answer::Refused(x),
-                Check::Pass => Answer::Done(sweeping::sweep_step(
-                    copies,
-                    received,
-                    log,
-                    counts,
-                    work,
-                    n,
-                    pass,
-                    m,
-                )),
-            }
-        }
+    let pass = pass_record::pass_of(work);
+    if pass.phase == layout::MARKING {
+        return Answer::Done(marking::mark_step(copies, work, n, pass));
     }
+    sweeping::sweep_step(copies, received, log, counts, work, n, pass)
 }

@@ -9,11 +9,11 @@ use native.Mathlib.Omega.{arith}
 use borrow.Author.Tests.{ltb-true, eq-eqb, ne-eqb}
 use Rattle.words.specs.Tests.{and-split, and-t, and-f, if-t, if-f}
 use Rattle.words.specs.Spans.{over, over-next}
-use Rattle.pages.specs.Geometry.{objectCount, isObject}
+use Rattle.pages.specs.Geometry.{maxPages, objectCount, isObject}
 use Rattle.page_laws.specs.Places.{object-range}
 use Rattle.records.specs.Records.{txnCount}
 use Rattle.areas.specs.Layout.{colourAt}
-use Rattle.areas.specs.Tables.{isTxn, at, mayMark, coloured, greyed}
+use Rattle.areas.specs.Tables.{isTxn, at, passFirst, mayMark, coloured, greyed}
 
 -- one more turn of a loop over a run of words
 pub over-turn : (f : ℕ → ℕ) (w : List ℕ) (a k : ℕ) (x : List ℕ) (v : ℕ) → x ≡ over f w a k → v ≡ f (getD x (a + k) 0) → set x (a + k) v ≡ over f w a (k + 1)
@@ -31,6 +31,10 @@ over-join f w a m (suc k) =
 -- what a pass may mark is an object
 pub mark-facts : (w : List ℕ) (n o : ℕ) → mayMark w n o ≡ true → (1 ≤ o) × (o ≤ objectCount n)
 mark-facts w n o h = object-range n o h
+
+-- the first page that a pass covers is in range
+pub first-below : (w : List ℕ) (n : ℕ) → n ≤ maxPages → passFirst w n ≤ maxPages
+first-below w n h = omega arith
 
 -- an object that turns grey, and one that does not, its colour standing at i
 module _ (w : List ℕ) (n o : ℕ) where

@@ -14,4 +14,6 @@ pub use tables::knows;
 pub use tables::leave_all;
 pub use tables::lose;
 pub use tables::may_mark;
+pub use tables::pass_end;
+pub use tables::pass_first;
 pub use tables::turn_grey;

@@ -3,7 +3,7 @@ ghost use Prim.Native.Nat.{_+_, _*_, _<_, _≤_};
 ghost use lib.ListN.{length};
 ghost use Rattle.pages.specs.Geometry.{maxPages, isObject};
 ghost use Rattle.areas.specs.Layout.{HasTables, phaseAt};
-ghost use Rattle.areas.specs.Tables.{has, gain, lose, canRead, canWrite, knows, mayMark, greyed};
+ghost use Rattle.areas.specs.Tables.{has, gain, lose, canRead, canWrite, knows, passFirst, passEnd, mayMark, greyed};
 ghost use Rattle.calls.specs.Transactions.{leaves, endedEntry, endedEntries};
 use areas::layout;
 use bit_ops::bits;
@@ -103,6 +103,20 @@ pub fn knows(w: &[u32], n: usize, t: u32, o: u32) -> bool
         return false;
     }
     has(w, layout::known_at(n, o as usize), t)
+}
+
+// The first page of a pass: that of the store.
+pub fn pass_first(w: &[u32], n: usize) -> usize
+    ensures { λ r. ⌜ r ≡ passFirst (now (w .entry)) n ⌝ }
+{
+    0
+}
+
+// The page at which a pass ends: behind the last one of the store.
+pub fn pass_end(w: &[u32], n: usize) -> usize
+    ensures { λ r. ⌜ r ≡ passEnd (now (w .entry)) n ⌝ }
+{
+    n
 }
 
 // Whether the pass that runs may mark o: all objects of the store.

@@ -1,13 +1,13 @@
-use mathlib.Core.Path.{sym}
-use Rattle.words.specs.Tests.{if-t, if-f}
+use Rattle.marking.specs.Colours.{first-by}
+use borrow.Author.Needs.{needs}
 use Rattle.marking.proofs.first_colour.Statement.{statement}
 use Rattle.marking.proofs.first_colour.Tie as tie
 
 returns : tie.Need-returns
-returns c = sym (if-t _ _ _ (c .if1 .taken))
+returns c = first-by (c .before .before .before .before .before .args .work .now) (c .before .before .before .before .before .args .n) (c .before .before .before .before .before .args .o) _ _ _ (c .before .may-mark .ensures) (c .before .before .before .pruned-at .ensures) (c .if1 .taken)
 
 returns-2 : tie.Need-returns-2
-returns-2 c = sym (if-f _ _ _ (c .if1 .left))
+returns-2 c = first-by (c .before .before .before .before .before .args .work .now) (c .before .before .before .before .before .args .n) (c .before .before .before .before .before .args .o) _ _ _ (c .before .may-mark .ensures) (c .before .before .before .pruned-at .ensures) (c .if1 .left)
 
 pub first-colour-spec : {M : Type 1} → statement M
-first-colour-spec = tie.close (tie.spec returns returns-2)
+first-colour-spec = tie.close (tie.spec (λ c κs. search needs) (λ c. search needs) (λ c. search needs) (λ c. search needs) (λ c κs. search needs) (λ c. search needs) returns returns-2)

@@ -41,6 +41,7 @@ use denote.Triple.Table.{entered, cited}
 use denote.Triple.Walked.{says, needs, Stays, stay-none, walkOf, AllGo, goes-none, Walks, ends-at, walked, walk-meets}
 use denote.Exit.{yes}
 use denote.Triple.Clauses.{ensured, lasts}
+use Rattle.pages.specs.Geometry.{maxPages}
 use Rattle.pass_record.specs.Step.{passNext}
 use Rattle.pass_record.specs.declared.Pass.{Pass}
 use Rattle.pass_record.proofs.Pass as T
@@ -55,11 +56,11 @@ use Rattle.pass_record.proofs.advanced.Statement as stated
 use Rattle.pass_record.proofs.advanced.Code as code
 
 -- what `advance` requires
-abbrev Within : Pass → ℕ → Type 0
-Within p n = (p .page < n) × (n ≤ 256)
+abbrev Within : Pass → ℕ → ℕ → Type 0
+Within p n lo = (p .page < maxPages) × (n ≤ maxPages) × (lo ≤ maxPages)
 
 abbrev stayed : Stays (lends.ended .signature .params) (lends.ended .kept)
-stayed = (stay-none (λ _. T.the-row) yes, (stay-none (λ _. usize) yes, (stay-none (λ _. bool) yes, tt)))
+stayed = (stay-none (λ _. T.the-row) yes, (stay-none (λ _. usize) yes, (stay-none (λ _. usize) yes, (stay-none (λ _. usize) yes, (stay-none (λ _. bool) yes, tt)))))
 
 -- what a record owns at its machine value
 abbrev Own : Pass → Fml
@@ -85,21 +86,22 @@ module _ {M : Type 1} (𝓤 : URA M) (H : Heap 𝓤) (A : Atoms 𝓤) (W : Given
       spelt ! (T.the-row) (Is (T.the-row)) (shows 𝓤 H A (T.the-row)) (LL.vals T.the-type T′.the-laws) (LL.tells T.the-type T′.the-laws) fullShare p vs l 0 $
       use1 W (‵ (fat fullShare T′.mir l 0 (T′.lowered p))) (W .laws .raw-at fullShare T′.mir l 0 (T′.lowered p)) $ frame ! $ done !)
 
-module _ {M : Type 1} (𝓤 : URA M) (H : Heap 𝓤) (A : Atoms 𝓤) (W : Given 𝓤 H A) (at-mem : Memory → SProp 𝓤) (run : Routine → Fun 𝓤) (h : Pass) (n : ℕ) (g : Bool) (within : Within h n) where
-  abbrev x : Pass × (ℕ × (Bool × Unit {0}))
-  x = (h, (n, (g, tt)))
+module _ {M : Type 1} (𝓤 : URA M) (H : Heap 𝓤) (A : Atoms 𝓤) (W : Given 𝓤 H A) (at-mem : Memory → SProp 𝓤) (run : Routine → Fun 𝓤) (h : Pass) (n lo hi : ℕ) (g : Bool) (within : Within h n lo) where
+  abbrev x : Pass × (ℕ × (ℕ × (ℕ × (Bool × Unit {0}))))
+  x = (h, (n, (lo, (hi, (g, tt)))))
 
-  abbrev at : List Val × (List Val × (List Val × Unit {0}))
-  at = (T′.lowered h ∷ [], (vint w64 n ∷ [], (vbool g ∷ [], tt)))
+  abbrev at : List Val × (List Val × (List Val × (List Val × (List Val × Unit {0}))))
+  at = (T′.lowered h ∷ [], (vint w64 n ∷ [], (vint w64 lo ∷ [], (vint w64 hi ∷ [], (vbool g ∷ [], tt)))))
 
   abbrev Post : Val → SProp 𝓤
   Post = walkOf 𝓤 H A lends.ended stayed (lends.clauses 𝓤 H A at-mem run) .post ((tt, tt, tt, x, at), tt)
 
-  exits : n < 2 ^ 64 → (r : Pass) → r ≡ passNext h n g → ent 𝓤 (sep 𝓤 (sem 𝓤 H A (Own r)) (sem 𝓤 H A (Own h))) (Post (T′.lowered r))
-  exits fits r e =
+  exits : n < 2 ^ 64 → lo < 2 ^ 64 → hi < 2 ^ 64 → (r : Pass) → r ≡ passNext h n lo hi g → ent 𝓤 (sep 𝓤 (sem 𝓤 H A (Own r)) (sem 𝓤 H A (Own h))) (Post (T′.lowered r))
+  exits fits fits′ fits″ r e =
       qed W (‵ (Own r) ∷ ‵ (Own h) ∷ []) ∵
-      suffices ! _ (ends-at 𝓤 H A lends.ended stayed (lends.clauses 𝓤 H A at-mem run) W ((tt, tt, tt, x, at), tt) (T′.lowered r) r (tt, (tt, (tt, tt))) (tt, (tt, (tt, tt)))) $ says ! e $
-      nothing ! $ owned ! bool (Is bool) (bool-makes 𝓤 H A W) g _ refl $ fjoin ! $ owned ! usize (Is usize) (uint-makes 𝓤 H A W w64) n _ (refl, fits) $ fjoin ! $
+      suffices ! _ (ends-at 𝓤 H A lends.ended stayed (lends.clauses 𝓤 H A at-mem run) W ((tt, tt, tt, x, at), tt) (T′.lowered r) r (tt, (tt, (tt, (tt, (tt, tt))))) (tt, (tt, (tt, (tt, (tt, tt)))))) $ says ! e $
+      nothing ! $ owned ! bool (Is bool) (bool-makes 𝓤 H A W) g _ refl $ fjoin ! $ owned ! usize (Is usize) (uint-makes 𝓤 H A W w64) hi _ (refl, fits″) $ fjoin ! $
+      owned ! usize (Is usize) (uint-makes 𝓤 H A W w64) lo _ (refl, fits′) $ fjoin ! $ owned ! usize (Is usize) (uint-makes 𝓤 H A W w64) n _ (refl, fits) $ fjoin ! $
       move ! (2 ∷ 0 ∷ []) $ fjoin ! $ nothing ! $ frame ! $ frame ! $ done !
 
   -- the local at l, lent for the lifetime α under the name δ, and what `advance`'s triple binds outside
@@ -107,56 +109,60 @@ module _ {M : Type 1} (𝓤 : URA M) (H : Heap 𝓤) (A : Atoms 𝓤) (W : Given
   ref l δ = record { ptr = (l, 0); name = δ; now = h }
 
   abbrev to : ℕ → ℕ → GName → Advance 𝓤 H A at-mem run .Ghost
-  to α l δ = (((α ∷ [], tt), (fullShare, tt), tt, (ref l δ, (n, (g, tt))), (vptr l 0 ∷ [], (vint w64 n ∷ [], (vbool g ∷ [], tt)))), tt)
+  to α l δ = (((α ∷ [], tt), (fullShare, tt), tt, (ref l δ, (n, (lo, (hi, (g, tt))))), (vptr l 0 ∷ [], (vint w64 n ∷ [], (vint w64 lo ∷ [], (vint w64 hi ∷ [], (vbool g ∷ [], tt)))))), tt)
 
-  goes-advance : n < 2 ^ 64 → (α l : ℕ) (δ : GName) → ent 𝓤 (sep 𝓤 (A .lft (α ∷ []) fullShare) (sem 𝓤 H A (MutRef (named 0) (α ∷ []) T.the-row .own (ref l δ) (vptr l 0 ∷ [])))) (Advance 𝓤 H A at-mem run .pre (to α l δ))
-  goes-advance fits α l δ =
+  goes-advance : n < 2 ^ 64 → lo < 2 ^ 64 → hi < 2 ^ 64 → (α l : ℕ) (δ : GName) → ent 𝓤 (sep 𝓤 (A .lft (α ∷ []) fullShare) (sem 𝓤 H A (MutRef (named 0) (α ∷ []) T.the-row .own (ref l δ) (vptr l 0 ∷ [])))) (Advance 𝓤 H A at-mem run .pre (to α l δ))
+  goes-advance fits fits′ fits″ α l δ =
       qed W (‵ (flft (α ∷ []) fullShare) ∷ ‵ (MutRef (named 0) (α ∷ []) T.the-row .own (ref l δ) (vptr l 0 ∷ [])) ∷ []) ∵ says ! within $ nothing ! $ move ! (1 ∷ 0 ∷ []) $ join ! $ frame ! $
-      nothing ! $ owned ! bool (Is bool) (bool-makes 𝓤 H A W) g _ refl $ fjoin ! $ owned ! usize (Is usize) (uint-makes 𝓤 H A W w64) n _ (refl, fits) $ fjoin ! $
+      nothing ! $ owned ! bool (Is bool) (bool-makes 𝓤 H A W) g _ refl $ fjoin ! $ owned ! usize (Is usize) (uint-makes 𝓤 H A W w64) hi _ (refl, fits″) $ fjoin ! $
+      owned ! usize (Is usize) (uint-makes 𝓤 H A W w64) lo _ (refl, fits′) $ fjoin ! $ owned ! usize (Is usize) (uint-makes 𝓤 H A W w64) n _ (refl, fits) $ fjoin ! $
       move ! (1 ∷ 0 ∷ []) $ fjoin ! $ done !
 
   module _ (C : Calls 𝓤 H) (Λ : Loops 𝓤 H) (fm : FmC 𝓤 H (W .laws) C) (known : Triple 𝓤 (C #advance) (Advance 𝓤 H A at-mem run)) where
-    walk : Holds (hasTy T′.mir (T′.lowered h)) × WT (T′.lowered h) → ent 𝓤 (onEntry 𝓤 H A lends.signature tt tt x at) (WpFn 𝓤 H C Λ code.function (T′.lowered h ∷ vint w64 n ∷ vbool g ∷ []) Post)
+    walk : Holds (hasTy T′.mir (T′.lowered h)) × WT (T′.lowered h) → ent 𝓤 (onEntry 𝓤 H A lends.signature tt tt x at) (WpFn 𝓤 H C Λ code.function (T′.lowered h ∷ vint w64 n ∷ vint w64 lo ∷ vint w64 hi ∷ vbool g ∷ []) Post)
     walk wt =
-        qed W (‵ ftrue ∷ ‵ (owns (T.the-row ∷ usize ∷ bool ∷ []) x at) ∷ []) ∵ move ! (1 ∷ []) $ fsplit ! $
+        qed W (‵ ftrue ∷ ‵ (owns (T.the-row ∷ usize ∷ usize ∷ usize ∷ bool ∷ []) x at) ∷ []) ∵ move ! (1 ∷ []) $ fsplit ! $
         use1 W (‵ (Own h) ⊛ ‵ (Own h)) (LL.copy T.the-type T′.the-copy 𝓤 H A W .twice h (T′.lowered h ∷ [])) $ split ! $ move ! (2 ∷ []) $ fsplit ! $
-        peeks ! usize (Is usize) (shows 𝓤 H A usize) n (vint w64 n ∷ []) (λ gn.
-        -- [what n owns; what g owns; what h owns, twice; true]
-        enter ! C Λ code.function (T′.lowered h ∷ vint w64 n ∷ vbool g ∷ []) _ $
-        alloc1 ! (λ l₀. alloc1 ! (λ l₁. alloc1 ! (λ l₂. alloc1 ! (λ l₃. alloc1 ! (λ l₄. alloc1 ! (λ l₅. alloc1 ! (λ l₆. alloc0 ! $ params1 ! $
-        pass1 ! (init ! 10 refl wt) $ pass1 ! (init ! 8 refl (tt, record { fits = gn .1 })) $ pass1 ! (init ! 6 refl (tt, tt)) $ pass0 ! $
-        assigns ! (of-opd ! (load ! (from ! (stop !)) (look ! 10 refl))) (from ! (stop !)) (init ! 4 refl wt) $
+        peeks ! usize (Is usize) (shows 𝓤 H A usize) n (vint w64 n ∷ []) (λ gn. move ! (1 ∷ []) $ fsplit ! $
+        peeks ! usize (Is usize) (shows 𝓤 H A usize) lo (vint w64 lo ∷ []) (λ gl. move ! (1 ∷ []) $ fsplit ! $ peeks ! usize (Is usize) (shows 𝓤 H A usize) hi (vint w64 hi ∷ []) (λ gh.
+        -- [what hi owns; what g owns; what lo and n own; what h owns, twice; true]
+        enter ! C Λ code.function (T′.lowered h ∷ vint w64 n ∷ vint w64 lo ∷ vint w64 hi ∷ vbool g ∷ []) _ $
+        alloc1 ! (λ l₀. alloc1 ! (λ l₁. alloc1 ! (λ l₂. alloc1 ! (λ l₃. alloc1 ! (λ l₄. alloc1 ! (λ l₅. alloc1 ! (λ l₆. alloc1 ! (λ l₇. alloc1 ! (λ l₈. alloc0 ! $ params1 ! $
+        pass1 ! (init ! 14 refl wt) $ pass1 ! (init ! 12 refl (tt, record { fits = gn .1 })) $ pass1 ! (init ! 10 refl (tt, record { fits = gl .1 })) $ pass1 ! (init ! 8 refl (tt, record { fits = gh .1 })) $
+        pass1 ! (init ! 6 refl (tt, tt)) $ pass0 ! $
+        assigns ! (of-opd ! (load ! (from ! (stop !)) (look ! 14 refl))) (from ! (stop !)) (init ! 4 refl wt) $
         assigns ! (addr ! (from ! (stop !))) (from ! (stop !)) (init ! 0 refl (tt, tt)) $
-        -- _4 is lent for a new lifetime
-        move ! (4 ∷ 16 ∷ []) $ use2 W (‵ (partAt T.the-row fullShare h l₄ 0)) (lies 𝓤 H A W h l₄) $
+        -- _6 is lent for a new lifetime
+        move ! (4 ∷ 22 ∷ []) $ use2 W (‵ (partAt T.the-row fullShare h l₆ 0)) (lies 𝓤 H A W h l₆) $
         lft-new ! tt (λ α. move ! (1 ∷ []) $
-        use1 W (later (some (λ (δ : GName). ‵ (MutRef (named 0) (α ∷ []) T.the-row .own (ref l₄ δ) (vptr l₄ 0 ∷ [])) ⊛ ‵ (flent (α ∷ []) (Body (mem T.the-row) l₄ 0 δ))))) (lends-ref 𝓤 H A W T.the-row (named 0) (α ∷ []) h l₄ 0) $
-        await ! tt $ pick ! (λ δ. split ! $ move ! (2 ∷ 0 ∷ []) $ use2 W (raw (Advance 𝓤 H A at-mem run .pre (to α l₄ δ))) (goes-advance (gn .1) α l₄ δ) $
-        -- [pre; the lender's part; _6; …; _5; …; what frees _4; _3; …; _2; …; _1; …; room for _0; …]
-        calls-at ! fm (Advance 𝓤 H A at-mem run) known (to α l₄ δ) (and-then ! (load ! (from ! (stop !)) (look ! 2 refl)) (and-then ! (load ! (from ! (stop !)) (look ! 9 refl)) (and-then ! (load ! (from ! (stop !)) (look ! 7 refl)) (no-more !)))) (λ v.
-        use1 W (later (some (λ (u : Unit {0}). ((‵ (flft (α ∷ []) fullShare) ⊛ ‵ ftrue) ⊛ ‵ (Nothing .own u (v ∷ []))) ⊛ raw (ensured 𝓤 H A lent.ended (lent.clauses 𝓤 H A at-mem run) (α ∷ [], tt) (ref l₄ δ, (n, (g, tt))) tt u)))) (id⊢ 𝓤 _) $ await ! tt $ pick ! (λ u.
+        use1 W (later (some (λ (δ : GName). ‵ (MutRef (named 0) (α ∷ []) T.the-row .own (ref l₆ δ) (vptr l₆ 0 ∷ [])) ⊛ ‵ (flent (α ∷ []) (Body (mem T.the-row) l₆ 0 δ))))) (lends-ref 𝓤 H A W T.the-row (named 0) (α ∷ []) h l₆ 0) $
+        await ! tt $ pick ! (λ δ. split ! $ move ! (2 ∷ 0 ∷ []) $ use2 W (raw (Advance 𝓤 H A at-mem run .pre (to α l₆ δ))) (goes-advance (gn .1) (gl .1) (gh .1) α l₆ δ) $
+        -- [pre; the lender's part; _8; …; _7; …; what frees _6; _5; …; _4; …; _3; …; _2; …; _1; …; room for _0; …]
+        calls-at ! fm (Advance 𝓤 H A at-mem run) known (to α l₆ δ) (and-then ! (load ! (from ! (stop !)) (look ! 2 refl)) (and-then ! (load ! (from ! (stop !)) (look ! 13 refl)) (and-then ! (load ! (from ! (stop !)) (look ! 11 refl))
+        (and-then ! (load ! (from ! (stop !)) (look ! 9 refl)) (and-then ! (load ! (from ! (stop !)) (look ! 7 refl)) (no-more !)))))) (λ v.
+        use1 W (later (some (λ (u : Unit {0}). ((‵ (flft (α ∷ []) fullShare) ⊛ ‵ ftrue) ⊛ ‵ (Nothing .own u (v ∷ []))) ⊛ raw (ensured 𝓤 H A lent.ended (lent.clauses 𝓤 H A at-mem run) (α ∷ [], tt) (ref l₆ δ, (n, (lo, (hi, (g, tt))))) tt u)))) (id⊢ 𝓤 _) $ await ! tt $ pick ! (λ u.
         -- what `advance` ensures, at some last value
-        split ! $ move ! (1 ∷ []) $ use1 W (some (λ (z : Pass × (Unit {0} × (Unit {0} × Unit {0}))). ‵ (lasts lent.ended (α ∷ [], tt) (ref l₄ δ, (n, (g, tt))) z) ⊛ raw (fact 𝓤 (z .0 ≡ passNext h n g)))) (id⊢ 𝓤 _) $ pick ! (λ z.
-        split ! $ move ! (1 ∷ []) $ heard ! (z .0 ≡ passNext h n g) (λ e. fsplit ! $ move ! (2 ∷ []) $ split ! $ move ! (1 ∷ []) $ feqL ! (λ is.
-        -- [the token; the last value; true; the lender's part; _6; …; _5; …]
+        split ! $ move ! (1 ∷ []) $ use1 W (some (λ (z : Pass × (Unit {0} × (Unit {0} × (Unit {0} × (Unit {0} × Unit {0}))))). ‵ (lasts lent.ended (α ∷ [], tt) (ref l₆ δ, (n, (lo, (hi, (g, tt))))) z) ⊛ raw (fact 𝓤 (z .0 ≡ passNext h n lo hi g)))) (id⊢ 𝓤 _) $ pick ! (λ z.
+        split ! $ move ! (1 ∷ []) $ heard ! (z .0 ≡ passNext h n lo hi g) (λ e. fsplit ! $ move ! (2 ∷ []) $ split ! $ move ! (1 ∷ []) $ feqL ! (λ is.
+        -- [the token; the last value; true; the lender's part; _8; …; _7; …]
         land ! (from ! (stop !)) (init ! 6 refl (subst (λ (y : Val). Holds (hasTy tyUnit y) × WT y) (sym (ap only is)) (tt, tt))) $
-        -- the lifetime is ended, and _4 is taken back at its last value
-        split ! $ lft-end ! tt $ move ! (0 ∷ 4 ∷ 2 ∷ []) $ use3 W (later (‵ (partAt T.the-row fullShare (z .0) l₄ 0))) (ref-back 𝓤 H A W T.the-row (α ∷ []) δ (z .0) l₄ 0) $ await ! tt $
-        use1 W (‵ (fat fullShare T′.mir l₄ 0 (T′.lowered (z .0))) ⊛ ‵ (Own (z .0))) (lay 𝓤 H A W (z .0) l₄) $ split ! $
+        -- the lifetime is ended, and _6 is taken back at its last value
+        split ! $ lft-end ! tt $ move ! (0 ∷ 4 ∷ 2 ∷ []) $ use3 W (later (‵ (partAt T.the-row fullShare (z .0) l₆ 0))) (ref-back 𝓤 H A W T.the-row (α ∷ []) δ (z .0) l₆ 0) $ await ! tt $
+        use1 W (‵ (fat fullShare T′.mir l₆ 0 (T′.lowered (z .0))) ⊛ ‵ (Own (z .0))) (lay 𝓤 H A W (z .0) l₆) $ split ! $
         move ! (1 ∷ []) $ peeks ! T.the-row (Is T.the-row) (shows 𝓤 H A T.the-row) (z .0) (T′.lowered (z .0) ∷ []) (λ has. move ! (1 ∷ 0 ∷ []) $
-        -- [_4; what its record owns; true; true; _6; …; _5; …; what frees _4; _3; …; _2; …; _1; …; room for _0; …]
-        assigns ! (of-opd ! (load ! (from ! (stop !)) (look ! 0 refl))) (from ! (stop !)) (init ! 15 refl (LL.lawful T.the-type T′.the-laws 𝓤 H A W .typed (z .0) _ has .0)) $
-        returns ! (look ! 15 refl) $ forget ! 0 refl $ forget ! 4 refl $ forget ! 6 refl $ forget ! 9 refl $ forget ! 11 refl $ forget ! 13 refl $ forget ! 15 refl $
-        move ! (15 ∷ 16 ∷ []) $ free1 ! $ move ! (13 ∷ 14 ∷ []) $ free1 ! $ move ! (11 ∷ 12 ∷ []) $ free1 ! $ move ! (9 ∷ 10 ∷ []) $ free1 ! $ move ! (0 ∷ 8 ∷ []) $ free1 ! $ move ! (5 ∷ 6 ∷ []) $ free1 ! $ move ! (3 ∷ 4 ∷ []) $ free1 ! $ free0 ! $
-        keep ! (0 ∷ 5 ∷ []) $ by ! (exits (gn .1) (z .0) e)))))))))))))))))
+        -- [_6; what its record owns; true; true; _8; …; _7; …; what frees _6; _5; …; _4; …; _3; …; _2; …; _1; …; room for _0; …]
+        assigns ! (of-opd ! (load ! (from ! (stop !)) (look ! 0 refl))) (from ! (stop !)) (init ! 19 refl (LL.lawful T.the-type T′.the-laws 𝓤 H A W .typed (z .0) _ has .0)) $
+        returns ! (look ! 19 refl) $ forget ! 0 refl $ forget ! 4 refl $ forget ! 6 refl $ forget ! 9 refl $ forget ! 11 refl $ forget ! 13 refl $ forget ! 15 refl $ forget ! 17 refl $ forget ! 19 refl $
+        move ! (19 ∷ 20 ∷ []) $ free1 ! $ move ! (17 ∷ 18 ∷ []) $ free1 ! $ move ! (15 ∷ 16 ∷ []) $ free1 ! $ move ! (13 ∷ 14 ∷ []) $ free1 ! $ move ! (11 ∷ 12 ∷ []) $ free1 ! $ move ! (9 ∷ 10 ∷ []) $ free1 ! $ move ! (0 ∷ 8 ∷ []) $ free1 ! $ move ! (5 ∷ 6 ∷ []) $ free1 ! $ move ! (3 ∷ 4 ∷ []) $ free1 ! $ free0 ! $
+        keep ! (0 ∷ 7 ∷ []) $ by ! (exits (gn .1) (gl .1) (gh .1) (z .0) e)))))))))))))))))))))
 
 module _ {M : Type 1} (𝓤 : URA M) (H : Heap 𝓤) (A : Atoms 𝓤) (W : Given 𝓤 H A) (at-mem : Memory → SProp 𝓤) (run : Routine → Fun 𝓤) where
   lends-walks : (C : Calls 𝓤 H) (Λ : Loops 𝓤 H) → FmC 𝓤 H (W .laws) C → Triple 𝓤 (C #advance) (Advance 𝓤 H A at-mem run) → Walks 𝓤 H A lends.ended stayed (WpFn 𝓤 H C Λ code.function) (lends.clauses 𝓤 H A at-mem run)
-  lends-walks C Λ fm known = walked 𝓤 H A lends.ended stayed (lends.clauses 𝓤 H A at-mem run) (WpFn 𝓤 H C Λ code.function) (λ κs. (LL.vals T.the-type T′.the-laws, (uint-vals w64, (bool-vals, tt)))) (λ κs. (LL.tells T.the-type T′.the-laws, (uint-tells w64, (bool-tells, tt))))
-      (λ κs qs bounds a _ are. needs 𝓤 (Within (a .0) (a .1 .0)) _ (λ within. walk 𝓤 H A W at-mem run (a .0) (a .1 .0) (a .1 .1 .0) within C Λ fm known (LL.lawful T.the-type T′.the-laws 𝓤 H A W .typed (a .0) _ (are .0) .0)))
+  lends-walks C Λ fm known = walked 𝓤 H A lends.ended stayed (lends.clauses 𝓤 H A at-mem run) (WpFn 𝓤 H C Λ code.function) (λ κs. (LL.vals T.the-type T′.the-laws, (uint-vals w64, (uint-vals w64, (uint-vals w64, (bool-vals, tt)))))) (λ κs. (LL.tells T.the-type T′.the-laws, (uint-tells w64, (uint-tells w64, (uint-tells w64, (bool-tells, tt))))))
+      (λ κs qs bounds a _ are. needs 𝓤 (Within (a .0) (a .1 .0) (a .1 .1 .0)) _ (λ within. walk 𝓤 H A W at-mem run (a .0) (a .1 .0) (a .1 .1 .0) (a .1 .1 .1 .0) (a .1 .1 .1 .1 .0) within C Λ fm known (LL.lawful T.the-type T′.the-laws 𝓤 H A W .typed (a .0) _ (are .0) .0)))
 
   goes : AllGo 𝓤 H A W 0 (lends.signature .params) (lends.ended .kept) stayed
-  goes = (goes-none 𝓤 H A W 0 (λ _. T.the-row) yes (λ κs x f. refl), (goes-none 𝓤 H A W 0 (λ _. usize) yes (λ κs x f. refl), (goes-none 𝓤 H A W 0 (λ _. bool) yes (λ κs x f. refl), tt)))
+  goes = (goes-none 𝓤 H A W 0 (λ _. T.the-row) yes (λ κs x f. refl), (goes-none 𝓤 H A W 0 (λ _. usize) yes (λ κs x f. refl), (goes-none 𝓤 H A W 0 (λ _. usize) yes (λ κs x f. refl), (goes-none 𝓤 H A W 0 (λ _. usize) yes (λ κs x f. refl), (goes-none 𝓤 H A W 0 (λ _. bool) yes (λ κs x f. refl), tt)))))
 
 lends-meets : {M : Type 1} (𝓤 : URA M) (H : Heap 𝓤) (A : Atoms 𝓤) → Given 𝓤 H A → (at-mem : Memory → SProp 𝓤) (run : Routine → Fun 𝓤) (𝓣 : Tables 𝓤 H)
     → Triple 𝓤 (𝓣 .C #advance) (Advance 𝓤 H A at-mem run) → Meets 𝓤 H A lends.signature (WpFn 𝓤 H (𝓣 .C) (𝓣 .Λ) code.function) (lends.spec 𝓤 H A at-mem run)
