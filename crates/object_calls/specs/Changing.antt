@@ -1,6 +1,6 @@
 -- A create and a set: what their tests give the code, and the tables that they leave. Assumes nothing.
 use Prim.Native.Nat.{ℕ, _*_, _<_, _≤_}
-use mathlib.Core.Path.{_≡_, refl, sym, _∙_}
+use mathlib.Core.Path.{_≡_, refl, sym, ap, _∙_}
 use mathlib.Core.Bool.{true, false}
 use mathlib.Core.Logic.{inl, inr}
 use mathlib.Core.List.{List, []}
@@ -50,7 +50,7 @@ module _ (s c r g k w : List ℕ) (n t o : ℕ) (h : Open (areas s c r g k w) n)
   pub create-ready : verdict (createTests (areas [] [] r g k w) n t o) ≡ Accept →
       Fits r g k (createOf t o) × HasTables w n × (t < txnCount) × (1 ≤ o) × (o ≤ objectCount n)
   create-ready p =
-      let q = create-facts (areas s c r g k w) n t o (sym (create-looks s c r g k w n t o) ∙ p) in
+      let q = create-facts (areas s c r g k w) n t o (sym (ap verdict (create-looks s c r g k w n t o)) ∙ p) in
       let m = q .room in
       let d = not-root _ n h o (q .free) in
       let b = q .object in
@@ -60,7 +60,7 @@ module _ (s c r g k w : List ℕ) (n t o : ℕ) (h : Open (areas s c r g k w) n)
       Fits r g k (setOf t o f (wordOf r o f) v) × (pageWords * n ≤ length r) × HasTables w n × (t < txnCount) × (1 ≤ o) × (o ≤ objectCount n)
       × (f < slotWords) × (isRef r o f ≡ true → wordOf r o f ≤ objectCount n)
   set-ready f v p =
-      let q = set-facts (areas s c r g k w) n t o f v (sym (set-looks s c r g k w n t o f v) ∙ p) in
+      let q = set-facts (areas s c r g k w) n t o f v (sym (ap verdict (set-looks s c r g k w n t o f v)) ∙ p) in
       let m = q .room in
       let b = q .object in
       let z = h .sized .received-len in

@@ -1,6 +1,6 @@
 -- A flush: what its tests give the code, and its outcome. Assumes nothing.
 use Prim.Native.Nat.{ℕ, _*_, _<_, _≤_}
-use mathlib.Core.Path.{_≡_, sym, _∙_}
+use mathlib.Core.Path.{_≡_}
 use mathlib.Core.List.{List, []}
 use lib.ListN.{length}
 use native.Mathlib.Omega.{arith}
@@ -16,7 +16,6 @@ use Rattle.areas.specs.Tables.{lose}
 use Rattle.calls.specs.Objects.{flushTests, flushed}
 use Rattle.acceptance.specs.Lengths.{Sized}
 use Rattle.acceptance.specs.Objects.{flush-facts}
-use Rattle.object_checks.specs.Tests.{flush-looks}
 
 pub flush-ready : (s c r g k w image : List ℕ) (n t p : ℕ) → Sized (areas s c r g k w) n →
     verdict (flushTests (areas [] [] r [] [] w) n t p image) ≡ Accept →

@@ -54,7 +54,15 @@ pub fn flush(
 ) -> Answer
     ensures { λ r. ⌜ out r (now (stored .exit)) (now (copies .exit)) (now (received .exit)) (now (log .exit)) (now (counts .exit)) (now (work .exit)) ≡ callFlush (areas (now (stored .entry)) (now (copies .entry)) (now (received .entry)) (now (log .entry)) (now (counts .entry)) (now (work .entry))) t p (now (image .entry)) ⌝ }
 {
-    if !entry::well_formed(stored, copies, received, log, counts, work, image.len() == PAGE_WORDS) {
+    if !entry::well_formed(
+        stored,
+        copies,
+        received,
+        log,
+        counts,
+        work,
+        image.len() == PAGE_WORDS,
+    ) {
         return Answer::Refused(Refusal::Malformed);
     }
     held_flush(stored, copies, received, log, counts, work, t, p, image)

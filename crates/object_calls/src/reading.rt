@@ -54,7 +54,15 @@ pub fn read(
     ensures { λ r. ⌜ out r (now (stored .exit)) (now (copies .exit)) (now (received .exit)) (now (log .exit)) (now (counts .exit)) (now (work .exit)) ≡ callRead (areas (now (stored .entry)) (now (copies .entry)) (now (received .entry)) (now (log .entry)) (now (counts .entry)) (now (work .entry))) t o (now (buffer .entry)) ⌝ }
     ensures { λ _. ⌜ now (buffer .exit) ≡ bufferAfter (areas (now (stored .entry)) (now (copies .entry)) (now (received .entry)) (now (log .entry)) (now (counts .entry)) (now (work .entry))) t o (now (buffer .entry)) ⌝ }
 {
-    if !entry::well_formed(stored, copies, received, log, counts, work, buffer.len() == SLOT_WORDS) {
+    if !entry::well_formed(
+        stored,
+        copies,
+        received,
+        log,
+        counts,
+        work,
+        buffer.len() == SLOT_WORDS,
+    ) {
         return Answer::Refused(Refusal::Malformed);
     }
     held_read(stored, copies, received, log, counts, work, buffer, t, o)

@@ -20,14 +20,7 @@ fn copy_rows(received: &[u32], copies: &mut [u32], p: usize)
 }
 
 // What an accepted flush does: the page copy becomes the received page, and t has no record of it not flushed.
-pub fn flush_apply(
-    received: &[u32],
-    copies: &mut [u32],
-    work: &mut [u32],
-    n: usize,
-    t: u32,
-    p: u32,
-)
+pub fn flush_apply(received: &[u32], copies: &mut [u32], work: &mut [u32], n: usize, t: u32, p: u32)
     requires { ⌜ (pageWords * n ≤ length (now received)) × (pageWords * n ≤ length (now copies)) × HasTables (now work) n × (t < txnCount) × (p < n) ⌝ }
     ensures { λ _. ⌜ (now (copies .exit) ≡ copiedPage (now (received .entry)) (now (copies .entry)) p) × (now (work .exit) ≡ lose (now (work .entry)) (unflushedAt n p) t) ⌝ }
 {
