@@ -1,4 +1,3 @@
--- Laws for the code of a read, a create, a set and a flush.
+-- Laws for the code of a read and a flush.
 pub mod Reading
 pub mod Flushing
-pub mod Changing

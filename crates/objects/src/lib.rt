@@ -1,10 +1,6 @@
-// Reading, creating and setting objects, and flushing pages.
-mod creating;
+// What accepted reads of objects and flushes of pages do.
 mod flushing;
 mod reading;
-mod setting;
 
-pub use creating::create;
-pub use flushing::flush;
-pub use reading::read;
-pub use setting::set_word;
+pub use flushing::flush_apply;
+pub use reading::read_apply;

@@ -1,0 +1,2 @@
+-- Laws for the code of a create and a set.
+pub mod Changing
