@@ -11,6 +11,11 @@ pub const RECEIVED: usize = 0;
 
 pub const STABLE: usize = 1;
 
+// How many words stand alone, and how many there are for each page.
+pub const SINGLE_WORDS: usize = 6;
+
+pub const WORDS_PER_PAGE: usize = 67;
+
 // One word each.
 pub const REOPENING_AT: usize = 0;
 
@@ -53,21 +58,21 @@ pub fn readers_at(n: usize, p: usize) -> usize
     requires { ⌜ (n ≤ maxPages) × (p ≤ n) ⌝ }
     ensures { λ r. ⌜ r ≡ readersAt n p ⌝ }
 {
-    6 + p
+    SINGLE_WORDS + p
 }
 
 pub fn writers_at(n: usize, p: usize) -> usize
     requires { ⌜ (n ≤ maxPages) × (p ≤ n) ⌝ }
     ensures { λ r. ⌜ r ≡ writersAt n p ⌝ }
 {
-    6 + n + p
+    SINGLE_WORDS + n + p
 }
 
 pub fn unflushed_at(n: usize, p: usize) -> usize
     requires { ⌜ (n ≤ maxPages) × (p ≤ n) ⌝ }
     ensures { λ r. ⌜ r ≡ unflushedAt n p ⌝ }
 {
-    6 + 2 * n + p
+    SINGLE_WORDS + 2 * n + p
 }
 
 // The words of object o.
@@ -75,28 +80,28 @@ pub fn known_at(n: usize, o: usize) -> usize
     requires { ⌜ (n ≤ maxPages) × (1 ≤ o) × (o ≤ objectCount n) ⌝ }
     ensures { λ r. ⌜ r ≡ knownAt n o ⌝ }
 {
-    6 + 3 * n + (o - 1)
+    SINGLE_WORDS + 3 * n + (o - 1)
 }
 
 pub fn pruned_at(n: usize, o: usize) -> usize
     requires { ⌜ (n ≤ maxPages) × (1 ≤ o) × (o ≤ objectCount n) ⌝ }
     ensures { λ r. ⌜ r ≡ prunedAt n o ⌝ }
 {
-    6 + 19 * n + (o - 1)
+    SINGLE_WORDS + 19 * n + (o - 1)
 }
 
 pub fn created_at(n: usize, o: usize) -> usize
     requires { ⌜ (n ≤ maxPages) × (1 ≤ o) × (o ≤ objectCount n) ⌝ }
     ensures { λ r. ⌜ r ≡ createdAt n o ⌝ }
 {
-    6 + 35 * n + (o - 1)
+    SINGLE_WORDS + 35 * n + (o - 1)
 }
 
 pub fn colour_at(n: usize, o: usize) -> usize
     requires { ⌜ (n ≤ maxPages) × (1 ≤ o) × (o ≤ objectCount n) ⌝ }
     ensures { λ r. ⌜ r ≡ colourAt n o ⌝ }
 {
-    6 + 51 * n + (o - 1)
+    SINGLE_WORDS + 51 * n + (o - 1)
 }
 
 // All working words of a store of n pages and l records, also of more than a store has: as many as fit into an address space.
@@ -104,5 +109,5 @@ pub fn work_words(n: usize, l: usize) -> usize
     requires { ⌜ (n < 2 ^ 57) × (l < 2 ^ 62) ⌝ }
     ensures { λ r. ⌜ r ≡ workWords n l ⌝ }
 {
-    6 + 67 * n
+    SINGLE_WORDS + WORDS_PER_PAGE * n
 }

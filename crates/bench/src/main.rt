@@ -1,5 +1,6 @@
 // The bench program: a store of 4 pages and 64 log records in memory; lines in, answers out.
 use areas::Answer;
+use areas::layout;
 use bench_feeding::Ended;
 use bench_feeding::Line;
 
@@ -9,15 +10,13 @@ const PAGES: usize = 4;
 const RECORDS: usize = 64;
 
 // The words of each page area, of the log and its counts, and of the working tables.
-const RECORD_WORDS: usize = 6;
-
 const PAGE_AREA: usize = pages::PAGE_WORDS * PAGES;
 
-const LOG_AREA: usize = RECORD_WORDS * RECORDS;
+const LOG_AREA: usize = records::RECORD_WORDS * RECORDS;
 
-const COUNTS: usize = 2;
+const COUNTS: usize = layout::COUNT_WORDS;
 
-const WORK_AREA: usize = 6 + 67 * PAGES;
+const WORK_AREA: usize = layout::SINGLE_WORDS + layout::WORDS_PER_PAGE * PAGES;
 
 // The bytes that are read at a time.
 const CHUNK: usize = 4096;

@@ -22,9 +22,6 @@ use pages::SLOT_WORDS;
 use pages::SLOTS;
 use records::TXNS;
 
-// The records that a create or a set needs beyond used and reserved.
-const CHANGE_ROOM: usize = 2;
-
 // Whether transaction and object are in range.
 fn in_range(n: usize, t: u32, o: u32) -> bool
     requires { ⌜ n ≤ maxPages ⌝ }
@@ -94,7 +91,7 @@ pub fn create_check(
     if change::occupied(received, o) {
         return Check::Refuse(Refusal::Occupied);
     }
-    if !store_ops::room_beyond(log, counts, work, CHANGE_ROOM) {
+    if !store_ops::room_beyond(log, counts, work, store_ops::CHANGE_ROOM) {
         return Check::Refuse(Refusal::LogFull);
     }
     Check::Accept
@@ -128,7 +125,7 @@ pub fn set_check(
     if !(store_ops::knows(work, n, t, o) & may_write(received, work, n, t, o, f, v)) {
         return Check::Refuse(Refusal::Unknown);
     }
-    if !store_ops::room_beyond(log, counts, work, CHANGE_ROOM) {
+    if !store_ops::room_beyond(log, counts, work, store_ops::CHANGE_ROOM) {
         return Check::Refuse(Refusal::LogFull);
     }
     Check::Accept

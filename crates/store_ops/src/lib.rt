@@ -2,6 +2,8 @@
 mod log;
 mod tables;
 
+pub use log::CHANGE_ROOM;
+pub use log::SWEEP_ROOM;
 pub use log::append;
 pub use log::room_beyond;
 pub use tables::can_read;

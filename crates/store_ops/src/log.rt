@@ -9,6 +9,11 @@ use areas::layout;
 use records::RECORD_WORDS;
 use records::Record;
 
+// What begin, create and set need beyond used and reserved, and what a sweep needs.
+pub const CHANGE_ROOM: usize = 2;
+
+pub const SWEEP_ROOM: usize = 1;
+
 // Whether k more records fit beyond those used and reserved.
 pub fn room_beyond(log: &[u32], counts: &[u32], work: &[u32], k: usize) -> bool
     requires { ⌜ Kept (now log) (now counts) ⌝ }

@@ -25,9 +25,6 @@ use pages::PAGE_WORDS;
 use pages::SLOTS;
 use pass_record::Pass;
 
-// The records that a sweep needs room for.
-const SWEEP_ROOM: usize = 1;
-
 // Whether slot s of page p is white and has no COT entry.
 fn unmarked(work: &[u32], n: usize, p: usize, s: usize) -> bool
     requires { ⌜ HasTables (now work) n × (p < n) × (s < slotCount) ⌝ }
@@ -89,7 +86,7 @@ fn sweep_check(log: &[u32], counts: &[u32], work: &[u32], m: u32) -> Check
     if m == 0 {
         return Check::Accept;
     }
-    if !store_ops::room_beyond(log, counts, work, SWEEP_ROOM) {
+    if !store_ops::room_beyond(log, counts, work, store_ops::SWEEP_ROOM) {
         return Check::Refuse(Refusal::LogFull);
     }
     Check::Accept

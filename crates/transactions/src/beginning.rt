@@ -17,9 +17,6 @@ use pages::ROOT;
 use pages::SLOTS;
 use records::TXNS;
 
-// A begin needs room for itself and for its own end.
-const ROOM: usize = 2;
-
 // Refusals 3, 4 and 11 of a begin.
 pub fn begin_check(log: &[u32], counts: &[u32], work: &[u32], t: u32) -> Check
     requires { ⌜ Kept (now log) (now counts) ⌝ }
@@ -32,7 +29,7 @@ pub fn begin_check(log: &[u32], counts: &[u32], work: &[u32], t: u32) -> Check
     if store_ops::has(work, layout::ACTIVE_AT, t) {
         return Check::Refuse(Refusal::WrongState);
     }
-    if store_ops::room_beyond(log, counts, work, ROOM) {
+    if store_ops::room_beyond(log, counts, work, store_ops::CHANGE_ROOM) {
         Check::Accept
     } else {
         Check::Refuse(Refusal::LogFull)
