@@ -1,7 +1,7 @@
 //! Where the archive stands: in the directory that KOPHDAEN_LIB names, as an absolute path.
 
 /// The proved crate that `rt staticlib` makes the archive of.
-const CRATE: &str = "api";
+const CRATE: &str = "kophdaen";
 
 fn main() {
     println!("cargo:rerun-if-env-changed=KOPHDAEN_LIB");

@@ -8,7 +8,7 @@ use Rattle.words.specs.Bits.{bit}
 use Rattle.pages.specs.Geometry.{pageOf, slotOf}
 use Rattle.records.specs.Records.{createOf, setOf, sweepOf}
 use Rattle.collector.specs.Objects.{blank, fresh, put, bornAt, stamp}
-use Rattle.views.specs.View.{applied}
+use Rattle.machine_view.specs.View.{applied}
 use Rattle.book_laws.specs.Seen.{tagged, Seen, acted}
 
 -- a choice between two, seen by its parts

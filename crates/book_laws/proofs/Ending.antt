@@ -13,7 +13,7 @@ use Rattle.words.specs.Tests.{if, by-bool, clash, and-split, and-l, and-false, 
 use Rattle.pages.specs.Geometry.{pageOf}
 use Rattle.records.specs.declared.Record.{Record}
 use Rattle.records.specs.Records.{isSweep, commitOf}
-use Rattle.views.specs.View.{names}
+use Rattle.machine_view.specs.View.{names}
 use Rattle.book.specs.Lines.{Line, line, isLeft, hasCommit}
 use Rattle.book.specs.Books.{Book, runs, countsCommitted, countsFull}
 use Rattle.book.specs.Pointers.{sweeps, makesOrFrees}

@@ -14,11 +14,11 @@ use Rattle.pages.specs.Objects.{formattedPages}
 use Rattle.records.specs.declared.Record.{Record}
 use Rattle.records.specs.Soundness.{recordSound}
 use Rattle.collector.specs.Objects.{blank}
-use Rattle.views.specs.View.{view, names, applied}
-use Rattle.views.proofs.Effects.{obj-ext, view-by, occupy-view}
+use Rattle.machine_view.specs.View.{view, names, applied}
+use Rattle.machine_view.proofs.Effects.{obj-ext, view-by, occupy-view}
 use Rattle.page_laws.specs.ViewLaws.{length-taken}
 use Rattle.record_laws.specs.EffectLaws.{length-effect}
-use Rattle.views.proofs.Records.{effect-view}
+use Rattle.machine_view.proofs.Records.{effect-view}
 use Rattle.book.specs.Lines.{Line, isLeft, filtered, pagesAfter}
 use Rattle.book.specs.Pointers.{sweeps, makesOrFrees}
 use Rattle.book_laws.specs.Seen.{touches, tagged, Seen, first, acted, seen}

@@ -6,7 +6,7 @@ use mathlib.Core.Bool.{Bool}
 use mathlib.Core.List.{List, [], _∷_}
 use lib.ListN.{length}
 use Rattle.words.specs.Tests.{by-bool}
-use Rattle.views.specs.View.{view}
+use Rattle.machine_view.specs.View.{view}
 use Rattle.book.specs.Lines.{Line, filtered, pagesAfter}
 use Rattle.book.specs.Books.{Stage, Book, countsCommitted, countsFull, committedLines, fullLines, committedPages, fullPages, surviving, stopped}
 use Rattle.book_laws.specs.Seen.{counted, committedOf, seen, seenCommitted, seenFull, made}

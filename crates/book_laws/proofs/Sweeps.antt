@@ -14,7 +14,7 @@ use Rattle.words.specs.Tests.{if, by-bool}
 use Rattle.words.specs.Bits.{bit, mapOf, bit-low, bit-next, bit-none}
 use Rattle.pages.specs.Objects.{mapAt, taken, released}
 use Rattle.records.specs.Records.{sweepOf}
-use Rattle.views.proofs.Slots.{within, released-occ}
+use Rattle.machine_view.proofs.Slots.{within, released-occ}
 use Rattle.book.specs.Lines.{Line, line}
 use Rattle.book.specs.Feeding.{clearedSlots, sweepLines}
 use Rattle.pages.specs.Geometry.{pageWords, slotCount}

@@ -9,7 +9,7 @@ use Rattle.words.specs.Tests.{if}
 use Rattle.records.specs.declared.Record.{Record}
 use Rattle.records.specs.Records.{isSweep}
 use Rattle.collector.specs.Objects.{Obj, Tag, blank, fresh, bornAt, stamp}
-use Rattle.views.specs.View.{names, applied}
+use Rattle.machine_view.specs.View.{names, applied}
 use Rattle.book.specs.Lines.{Line, hasCommit, filtered}
 use Rattle.book.specs.Books.{Book, countsCommitted, countsFull}
 use Rattle.book.specs.Pointers.{makesOrFrees}

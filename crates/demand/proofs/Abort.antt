@@ -28,20 +28,20 @@ use Rattle.collector.specs.State as State
 use Rattle.collector.specs.Calls as Calls
 use Rattle.collector.proofs.Invariant as Collector
 use Rattle.collector.proofs.Abort.{keep-abort}
-use Rattle.views.specs.View.{view}
-use Rattle.shown.specs.Tables.{locksOf}
-use Rattle.shown.proofs.Facts.{act-is, abort-facts}
-use Rattle.shown.proofs.Shows.{Shows, abort-shows}
-use Rattle.recovery.specs.Lines as Log
-use Rattle.recovery.specs.Shapes.{shapes, onlyChanges, undoings, undoingsOf}
-use Rattle.recovery.proofs.Invariant as Recovery
-use Rattle.recovery.proofs.Cells.{same-eq, same-mix, replay-cells}
-use Rattle.recovery.proofs.Changes.{changes-left}
-use Rattle.recovery.proofs.Decided.{SameCells}
-use Rattle.recovery.proofs.Maps.{small-sound}
-use Rattle.recovery.proofs.Reopening.{log-sound}
-use Rattle.recovery.proofs.Rolling.{Undoable, changes-undoable, Kept, appended-open, rolled-kept, aborted-kept, rolled-rest}
-use Rattle.recovery.proofs.Steps.{logOf, log-abort}
+use Rattle.machine_view.specs.View.{view}
+use Rattle.machine_calls.specs.Tables.{locksOf}
+use Rattle.machine_calls.proofs.Facts.{act-is, abort-facts}
+use Rattle.machine_calls.proofs.Shows.{Shows, abort-shows}
+use Rattle.recovery_proof.specs.Lines as Log
+use Rattle.recovery_proof.specs.Shapes.{shapes, onlyChanges, undoings, undoingsOf}
+use Rattle.recovery_proof.proofs.Invariant as Recovery
+use Rattle.recovery_proof.proofs.Cells.{same-eq, same-mix, replay-cells}
+use Rattle.recovery_proof.proofs.Changes.{changes-left}
+use Rattle.recovery_proof.proofs.Decided.{SameCells}
+use Rattle.recovery_proof.proofs.Maps.{small-sound}
+use Rattle.recovery_proof.proofs.Reopening.{log-sound}
+use Rattle.recovery_proof.proofs.Rolling.{Undoable, changes-undoable, Kept, appended-open, rolled-kept, aborted-kept, rolled-rest}
+use Rattle.recovery_proof.proofs.Steps.{logOf, log-abort}
 use Rattle.book_laws.specs.Seen.{Seen, seenCommitted, seenFull}
 use Rattle.book_laws.specs.Striking.{entries, undoingOnto}
 use Rattle.book_laws.specs.Keeping.{Runs, SoundLines, changesSince}

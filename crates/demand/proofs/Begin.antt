@@ -31,14 +31,14 @@ use Rattle.collector.specs.State.{St, Locks, Tables}
 use Rattle.collector.specs.Calls as Calls
 use Rattle.collector.proofs.Invariant as Collector
 use Rattle.collector.proofs.Locking.{keep-begin}
-use Rattle.views.specs.View.{view}
-use Rattle.shown.specs.Tables.{locksOf, tablesOf}
-use Rattle.shown.proofs.Frames.{reopening-kept}
-use Rattle.shown.proofs.Begun.{begin-beside}
-use Rattle.shown.proofs.Facts.{act-is, begin-facts}
-use Rattle.shown.proofs.Shows.{Shows, begin-shows}
-use Rattle.recovery.proofs.Invariant as Recovery
-use Rattle.recovery.proofs.Steps.{logOf, log-begin}
+use Rattle.machine_view.specs.View.{view}
+use Rattle.machine_calls.specs.Tables.{locksOf, tablesOf}
+use Rattle.machine_calls.proofs.Frames.{reopening-kept}
+use Rattle.machine_calls.proofs.Begun.{begin-beside}
+use Rattle.machine_calls.proofs.Facts.{act-is, begin-facts}
+use Rattle.machine_calls.proofs.Shows.{Shows, begin-shows}
+use Rattle.recovery_proof.proofs.Invariant as Recovery
+use Rattle.recovery_proof.proofs.Steps.{logOf, log-begin}
 use Rattle.book_laws.specs.Seen.{Seen, seenCommitted, seenFull}
 use Rattle.book_laws.specs.Keeping.{Runs, Writers}
 use Rattle.record_laws.specs.SoundRecords.{begin-sound}

@@ -14,11 +14,11 @@ use Rattle.acceptance.specs.Entered.{Open}
 use Rattle.book.specs.Lines.{Line}
 use Rattle.book.specs.Books.{Book, fullPages}
 use Rattle.collector.proofs.Invariant as Collector
-use Rattle.shown.specs.Tables.{locksOf}
-use Rattle.recovery.proofs.Invariant as Recovery
-use Rattle.recovery.proofs.Decided.{same-longer}
-use Rattle.recovery.proofs.Maps.{small-sound}
-use Rattle.recovery.proofs.Steps.{logOf}
+use Rattle.machine_calls.specs.Tables.{locksOf}
+use Rattle.recovery_proof.proofs.Invariant as Recovery
+use Rattle.recovery_proof.proofs.Decided.{same-longer}
+use Rattle.recovery_proof.proofs.Maps.{small-sound}
+use Rattle.recovery_proof.proofs.Steps.{logOf}
 use Rattle.book_laws.specs.Seen.{seenCommitted, seenFull}
 use Rattle.book_laws.specs.Keeping.{SoundLines}
 use Rattle.book_laws.proofs.Members.{each-cons}

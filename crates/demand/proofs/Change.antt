@@ -25,15 +25,15 @@ use Rattle.book.specs.Books.{Book, runs, fullLines, fullPages, countsCommitted,
 use Rattle.collector.specs.Objects.{Obj, Tag, pageOf}
 use Rattle.collector.specs.State.{St, Locks}
 use Rattle.collector.proofs.Invariant as Collector
-use Rattle.views.specs.View.{view, applied, unapplied}
-use Rattle.shown.specs.Tables.{locksOf, tablesOf}
-use Rattle.shown.proofs.Frames.{Beside, locks-kept, reopening-kept}
-use Rattle.shown.proofs.Facts.{act-is}
-use Rattle.shown.proofs.Shows.{Shows}
-use Rattle.recovery.proofs.Invariant as Recovery
-use Rattle.recovery.proofs.Decided.{SameCells, same-longer}
-use Rattle.recovery.proofs.Reversal.{Change}
-use Rattle.recovery.proofs.Steps.{logOf, log-change}
+use Rattle.machine_view.specs.View.{view, applied, unapplied}
+use Rattle.machine_calls.specs.Tables.{locksOf, tablesOf}
+use Rattle.machine_calls.proofs.Frames.{Beside, locks-kept, reopening-kept}
+use Rattle.machine_calls.proofs.Facts.{act-is}
+use Rattle.machine_calls.proofs.Shows.{Shows}
+use Rattle.recovery_proof.proofs.Invariant as Recovery
+use Rattle.recovery_proof.proofs.Decided.{SameCells, same-longer}
+use Rattle.recovery_proof.proofs.Reversal.{Change}
+use Rattle.recovery_proof.proofs.Steps.{logOf, log-change}
 use Rattle.book_laws.specs.Seen.{Seen, acted, seenCommitted, seenFull}
 use Rattle.book_laws.specs.Keeping.{SoundLines, Runs, BookInv, Writers, openly}
 use Rattle.book_laws.proofs.Members.{each-cons}

@@ -21,12 +21,12 @@ use Rattle.collector.specs.State.{St, Locks, mix}
 use Rattle.collector.specs.Calls as Calls
 use Rattle.collector.proofs.Invariant as Collector
 use Rattle.collector.proofs.Commit.{keep-commit}
-use Rattle.views.specs.View.{view}
-use Rattle.shown.specs.Tables.{locksOf}
-use Rattle.shown.proofs.Facts.{act-is, commit-facts}
-use Rattle.shown.proofs.Shows.{Shows, commit-shows}
-use Rattle.recovery.proofs.Invariant as Recovery
-use Rattle.recovery.proofs.Steps.{logOf, log-commit}
+use Rattle.machine_view.specs.View.{view}
+use Rattle.machine_calls.specs.Tables.{locksOf}
+use Rattle.machine_calls.proofs.Facts.{act-is, commit-facts}
+use Rattle.machine_calls.proofs.Shows.{Shows, commit-shows}
+use Rattle.recovery_proof.proofs.Invariant as Recovery
+use Rattle.recovery_proof.proofs.Steps.{logOf, log-commit}
 use Rattle.book_laws.specs.Seen.{Seen, seenCommitted, seenFull}
 use Rattle.book_laws.specs.Keeping.{Runs}
 use Rattle.book_laws.specs.After.{committedBy}

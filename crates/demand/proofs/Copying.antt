@@ -12,8 +12,8 @@ use Rattle.pages.specs.Objects.{copiedPage}
 use Rattle.page_laws.specs.ViewLaws.{occupied-copied, word-copied}
 use Rattle.collector.specs.Objects as Objects
 use Rattle.collector.specs.State.{mix}
-use Rattle.views.specs.View.{view, shown}
-use Rattle.views.proofs.Effects.{obj-ext, view-by}
+use Rattle.machine_view.specs.View.{view, shown}
+use Rattle.machine_view.proofs.Effects.{obj-ext, view-by}
 
 module _ (n : ℕ) (from to : List ℕ) (p : ℕ) (lf : length from ≡ pageWords * n) (lt : length to ≡ pageWords * n) (hp : p < n) where
   abbrev here : ℕ → Bool

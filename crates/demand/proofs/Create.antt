@@ -27,13 +27,13 @@ use Rattle.collector.specs.State.{Tables, add}
 use Rattle.collector.specs.Calls as C
 use Rattle.collector.proofs.Invariant as Collector
 use Rattle.collector.proofs.Create.{keep-create}
-use Rattle.shown.specs.Tables.{tablesOf}
-use Rattle.shown.proofs.Frames.{wider}
-use Rattle.shown.proofs.Facts as Facts
-use Rattle.shown.proofs.Created.{makes, create-beside, create-tables}
-use Rattle.shown.proofs.Shows.{create-shows}
-use Rattle.views.proofs.Effects.{view-free}
-use Rattle.recovery.proofs.Reversal.{create-back}
+use Rattle.machine_calls.specs.Tables.{tablesOf}
+use Rattle.machine_calls.proofs.Frames.{wider}
+use Rattle.machine_calls.proofs.Facts as Facts
+use Rattle.machine_calls.proofs.Created.{makes, create-beside, create-tables}
+use Rattle.machine_calls.proofs.Shows.{create-shows}
+use Rattle.machine_view.proofs.Effects.{view-free}
+use Rattle.recovery_proof.proofs.Reversal.{create-back}
 use Rattle.book_laws.specs.Seen.{Seen, acted, seenFull}
 use Rattle.book_laws.proofs.Acts.{create-acts}
 use Rattle.page_laws.specs.SoundFacts.{sound-facts, free-zero}

@@ -18,9 +18,9 @@ use Rattle.book.specs.Books.{Book}
 use Rattle.book.specs.Feeding.{put}
 use Rattle.collector.specs.Bits.{_and_, and-l, and-r, and-intro}
 use Rattle.collector.specs.State.{Locks, Tables}
-use Rattle.shown.specs.Tables.{locksOf, tablesOf}
-use Rattle.shown.proofs.Frames.{reopening-kept}
-use Rattle.shown.proofs.Ended.{ended-beside, ended-locks, ended-tables}
+use Rattle.machine_calls.specs.Tables.{locksOf, tablesOf}
+use Rattle.machine_calls.proofs.Frames.{reopening-kept}
+use Rattle.machine_calls.proofs.Ended.{ended-beside, ended-locks, ended-tables}
 use Rattle.book_laws.specs.Keeping.{Runs, Writers, openly}
 use Rattle.book_laws.proofs.Running.{put-same, put-other}
 use Rattle.demand.proofs.State.{OpenInv}

@@ -23,15 +23,15 @@ use Rattle.collector.specs.Objects.{Obj, pageOf}
 use Rattle.collector.specs.State.{Tables, mix}
 use Rattle.collector.specs.Calls as C
 use Rattle.collector.proofs.Write.{keep-flush}
-use Rattle.views.specs.View.{view}
-use Rattle.shown.proofs.Frames.{reopening-kept}
-use Rattle.shown.proofs.Facts as Facts
-use Rattle.shown.proofs.Flushed.{flush-beside, flush-locks, flush-tables}
-use Rattle.shown.proofs.Shows.{flush-shows}
-use Rattle.recovery.specs.Lines.{replay}
-use Rattle.recovery.specs.Shapes.{shapes}
-use Rattle.recovery.proofs.Decided.{SameCells}
-use Rattle.recovery.proofs.Cells.{same-mix, same-eq, replay-cells}
+use Rattle.machine_view.specs.View.{view}
+use Rattle.machine_calls.proofs.Frames.{reopening-kept}
+use Rattle.machine_calls.proofs.Facts as Facts
+use Rattle.machine_calls.proofs.Flushed.{flush-beside, flush-locks, flush-tables}
+use Rattle.machine_calls.proofs.Shows.{flush-shows}
+use Rattle.recovery_proof.specs.Lines.{replay}
+use Rattle.recovery_proof.specs.Shapes.{shapes}
+use Rattle.recovery_proof.proofs.Decided.{SameCells}
+use Rattle.recovery_proof.proofs.Cells.{same-mix, same-eq, replay-cells}
 use Rattle.book_laws.specs.Seen.{seenFull}
 use Rattle.demand.proofs.State.{machine, received, OpenInv}
 use Rattle.demand.proofs.Change.{machine-shows, full-shown}

@@ -28,9 +28,9 @@ use Rattle.collector.specs.State as M
 use Rattle.collector.specs.Claim as Claim
 use Rattle.collector.specs.Calls as C
 use Rattle.collector.proofs.Safety.{sound}
-use Rattle.views.proofs.Effects.{view-occ}
-use Rattle.shown.specs.Tables.{phaseOf}
-use Rattle.shown_pass.proofs.Sweep.{deadAt, swept-view}
+use Rattle.machine_view.proofs.Effects.{view-occ}
+use Rattle.machine_calls.specs.Tables.{phaseOf}
+use Rattle.machine_pass.proofs.Sweep.{deadAt, swept-view}
 use Rattle.book_laws.specs.Seen.{committedOf, seenCommitted, seenFull}
 use Rattle.demand.proofs.State.{machine, OpenInv}
 use Rattle.demand.proofs.Pointing.{leads-out}

@@ -18,13 +18,13 @@ use Rattle.collector.specs.Bits.{or-l}
 use Rattle.collector.specs.State.{Locks, Tables}
 use Rattle.collector.specs.Calls as C
 use Rattle.collector.proofs.Locking.{keep-lockr, keep-lockw}
-use Rattle.shown.proofs.Frames.{reopening-kept}
-use Rattle.shown.proofs.Facts as Facts
-use Rattle.shown.proofs.Facts.{sole, page-has}
-use Rattle.shown.proofs.Locking.{lock-read-beside, lock-read-locks, lock-read-tables, lock-write-beside, lock-write-locks, lock-write-tables}
-use Rattle.shown.proofs.Shows.{lock-read-shows, lock-write-shows}
-use Rattle.recovery.proofs.Invariant as Recovery
-use Rattle.recovery.proofs.Steps.{log-lock}
+use Rattle.machine_calls.proofs.Frames.{reopening-kept}
+use Rattle.machine_calls.proofs.Facts as Facts
+use Rattle.machine_calls.proofs.Facts.{sole, page-has}
+use Rattle.machine_calls.proofs.Locking.{lock-read-beside, lock-read-locks, lock-read-tables, lock-write-beside, lock-write-locks, lock-write-tables}
+use Rattle.machine_calls.proofs.Shows.{lock-read-shows, lock-write-shows}
+use Rattle.recovery_proof.proofs.Invariant as Recovery
+use Rattle.recovery_proof.proofs.Steps.{log-lock}
 use Rattle.demand.proofs.State.{machine, received, logged, OpenInv}
 use Rattle.demand.proofs.Change.{machine-shows}
 use Rattle.demand.proofs.Unlogged.{open-locked, open-beside}

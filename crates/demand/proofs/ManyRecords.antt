@@ -14,13 +14,13 @@ use Rattle.book.specs.Lines.{pagesAfter}
 use Rattle.book.specs.Books.{Book}
 use Rattle.book.specs.Pointers.{Leads}
 use Rattle.collector.specs.Objects.{Obj}
-use Rattle.views.specs.View.{view}
-use Rattle.shown.specs.Tables.{locksOf}
-use Rattle.recovery.specs.Lines as Log
-use Rattle.recovery.specs.Shapes.{shapes, recs}
-use Rattle.recovery.proofs.Appending.{recs-drop}
-use Rattle.recovery.proofs.Decided.{SameCells, same-drop}
-use Rattle.recovery.proofs.Invariant as Recovery
+use Rattle.machine_view.specs.View.{view}
+use Rattle.machine_calls.specs.Tables.{locksOf}
+use Rattle.recovery_proof.specs.Lines as Log
+use Rattle.recovery_proof.specs.Shapes.{shapes, recs}
+use Rattle.recovery_proof.proofs.Appending.{recs-drop}
+use Rattle.recovery_proof.proofs.Decided.{SameCells, same-drop}
+use Rattle.recovery_proof.proofs.Invariant as Recovery
 use Rattle.book_laws.specs.Seen.{Seen, counted, committedOf, seen}
 use Rattle.book_laws.specs.Striking.{entries}
 use Rattle.book_laws.proofs.Committed.{Alike}

@@ -4,10 +4,10 @@ use mathlib.Core.Path.{_≡_, sym, _∙_}
 use Rattle.areas.specs.Areas.{Areas}
 use Rattle.book.specs.Books.{Book}
 use Rattle.collector.specs.Objects.{Obj}
-use Rattle.views.specs.View.{view}
-use Rattle.shown.specs.Tables.{locksOf}
-use Rattle.recovery.proofs.Invariant as Recovery
-use Rattle.recovery.proofs.Decided.{SameCells}
+use Rattle.machine_view.specs.View.{view}
+use Rattle.machine_calls.specs.Tables.{locksOf}
+use Rattle.recovery_proof.proofs.Invariant as Recovery
+use Rattle.recovery_proof.proofs.Decided.{SameCells}
 use Rattle.demand.proofs.State.{received, stable, logged, LogInv}
 
 -- the log, the counts and the stored pages stay, and so do the lines and who runs

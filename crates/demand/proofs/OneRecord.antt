@@ -22,14 +22,14 @@ use Rattle.acceptance.specs.Entered.{Open}
 use Rattle.collector.specs.Objects.{Obj}
 use Rattle.collector.proofs.Invariant as Collector
 use Rattle.collector.proofs.Safety.{sound}
-use Rattle.views.specs.View.{view}
-use Rattle.shown.specs.Tables.{locksOf}
-use Rattle.recovery.specs.Lines as Log
-use Rattle.recovery.specs.Shapes.{shapes, recs}
-use Rattle.recovery.proofs.Appending.{recs-same, recs-more, log-more}
-use Rattle.recovery.proofs.Decided.{SameCells}
-use Rattle.recovery.proofs.Invariant as Recovery
-use Rattle.recovery.proofs.Steps.{logOf}
+use Rattle.machine_view.specs.View.{view}
+use Rattle.machine_calls.specs.Tables.{locksOf}
+use Rattle.recovery_proof.specs.Lines as Log
+use Rattle.recovery_proof.specs.Shapes.{shapes, recs}
+use Rattle.recovery_proof.proofs.Appending.{recs-same, recs-more, log-more}
+use Rattle.recovery_proof.proofs.Decided.{SameCells}
+use Rattle.recovery_proof.proofs.Invariant as Recovery
+use Rattle.recovery_proof.proofs.Steps.{logOf}
 use Rattle.book_laws.specs.Seen.{counted, committedOf, seen, seenCommitted, seenFull}
 use Rattle.book_laws.specs.Striking.{entries}
 use Rattle.book_laws.specs.Keeping.{SoundLines}

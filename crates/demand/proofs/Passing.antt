@@ -31,14 +31,14 @@ use Rattle.collector.proofs.Facts.{MarkFacts}
 use Rattle.collector.proofs.Mark.{keep-pass, keep-mark, keep-turn}
 use Rattle.collector.proofs.Steps.{steps-marking}
 use Rattle.collector.proofs.Sweep.{keep-skip}
-use Rattle.shown.specs.Tables.{phaseOf, locksOf, tablesOf}
-use Rattle.shown.proofs.Areas.{reference}
-use Rattle.shown.proofs.Frames.{Beside, beside-over, beside-fill, beside-set, wider, later}
-use Rattle.shown.proofs.Shows.{Shows}
-use Rattle.shown_pass.proofs.Mark.{scan-locks, scan-tables, scan-pass, moved-locks, moved-tables, moved-pass, scanned-low, steps-suc}
-use Rattle.shown_pass.proofs.PassFacts.{lowest-object, lowest-grey, no-grey}
-use Rattle.shown_pass.proofs.Start.{start-locks, start-tables, start-pass}
-use Rattle.shown_pass.proofs.Sweep.{on-locks, on-tables, on-pass}
+use Rattle.machine_calls.specs.Tables.{phaseOf, locksOf, tablesOf}
+use Rattle.machine_calls.proofs.Areas.{reference}
+use Rattle.machine_calls.proofs.Frames.{Beside, beside-over, beside-fill, beside-set, wider, later}
+use Rattle.machine_calls.proofs.Shows.{Shows}
+use Rattle.machine_pass.proofs.Mark.{scan-locks, scan-tables, scan-pass, moved-locks, moved-tables, moved-pass, scanned-low, steps-suc}
+use Rattle.machine_pass.proofs.PassFacts.{lowest-object, lowest-grey, no-grey}
+use Rattle.machine_pass.proofs.Start.{start-locks, start-tables, start-pass}
+use Rattle.machine_pass.proofs.Sweep.{on-locks, on-tables, on-pass}
 use Rattle.book_laws.proofs.Sweeps.{sweep-kept}
 use Rattle.demand.proofs.State.{machine, OpenInv}
 use Rattle.demand.proofs.Holds.{sweeping-phase}

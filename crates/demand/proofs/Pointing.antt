@@ -19,9 +19,9 @@ use Rattle.collector.specs.Objects as O
 use Rattle.collector.specs.Objects.{Obj, Tag, points, Reach, edge, Whole}
 use Rattle.collector.specs.Claim as Claim
 use Rattle.collector.proofs.Objects.{points-some, word-edge}
-use Rattle.views.specs.View.{view, applied, names}
+use Rattle.machine_view.specs.View.{view, applied, names}
 use Rattle.record_laws.specs.RecordLaws.{SoundRecord, sound-record}
-use Rattle.views.proofs.Effects.{view-occ, view-word}
+use Rattle.machine_view.proofs.Effects.{view-occ, view-word}
 use Rattle.book_laws.specs.Seen.{seen, first}
 use Rattle.book_laws.specs.Keeping.{here, later, SoundLines}
 use Rattle.book_laws.proofs.Folds.{after-view}

@@ -29,12 +29,12 @@ use Rattle.collector.proofs.Facts.{ReadFacts}
 use Rattle.collector.proofs.Locking.{keep-read}
 use Rattle.collector.proofs.Known.{known-there}
 use Rattle.collector.proofs.Objects.{word-edge}
-use Rattle.shown.specs.Tables.{tablesOf}
-use Rattle.shown.proofs.Frames.{reopening-kept}
-use Rattle.shown.proofs.Facts as Facts
-use Rattle.shown.proofs.Learned.{read-beside, read-locks, read-tables}
-use Rattle.shown.proofs.Shows.{read-shows}
-use Rattle.views.proofs.Effects.{view-word}
+use Rattle.machine_calls.specs.Tables.{tablesOf}
+use Rattle.machine_calls.proofs.Frames.{reopening-kept}
+use Rattle.machine_calls.proofs.Facts as Facts
+use Rattle.machine_calls.proofs.Learned.{read-beside, read-locks, read-tables}
+use Rattle.machine_calls.proofs.Shows.{read-shows}
+use Rattle.machine_view.proofs.Effects.{view-word}
 use Rattle.book_laws.specs.Seen.{seenFull}
 use Rattle.book_laws.proofs.Invariant.{learn-inv}
 use Rattle.demand.proofs.State.{machine, OpenInv}

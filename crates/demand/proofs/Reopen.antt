@@ -17,10 +17,10 @@ use Rattle.acceptance.specs.Reopening.{ReopenFacts, reopen-facts, reopen-ran, R
 use Rattle.book.specs.Lines.{pagesAfter}
 use Rattle.book.specs.Books.{storing, Book, committedPages, stopped}
 use Rattle.book.specs.Feeding.{fed}
-use Rattle.recovery.specs.Shapes.{recs}
-use Rattle.recovery.proofs.Maps.{small-sound, small-recovered}
+use Rattle.recovery_proof.specs.Shapes.{recs}
+use Rattle.recovery_proof.proofs.Maps.{small-sound, small-recovered}
 use Rattle.record_laws.specs.EffectLaws.{length-recovered}
-use Rattle.recovery.proofs.Reopening.{recovered-view}
+use Rattle.recovery_proof.proofs.Reopening.{recovered-view}
 use Rattle.book_laws.specs.Seen.{Seen}
 use Rattle.book_laws.proofs.Pages.{stop-one}
 use Rattle.demand.proofs.State.{Waiting, StoringInv, Inv3, reopening-store}

@@ -24,14 +24,14 @@ use Rattle.collector.specs.Objects.{Obj, Whole}
 use Rattle.collector.specs.State.{white, idle, atRest, formatted}
 use Rattle.collector.proofs.Invariant as Collector
 use Rattle.collector.proofs.Rest.{keep-reset, start}
-use Rattle.views.specs.View.{view}
-use Rattle.shown.specs.Tables.{pageBit, objectBit, flagBit, colourAtObject, phaseOf, locksOf, tablesOf, passOf}
-use Rattle.recovery.specs.Lines as Log
-use Rattle.recovery.specs.Shapes.{shapes, recs}
-use Rattle.recovery.proofs.Invariant as Recovery
-use Rattle.recovery.proofs.Appending.{log-intro}
-use Rattle.recovery.proofs.Decided.{SameCells}
-use Rattle.recovery.proofs.Steps.{logOf, log-fresh}
+use Rattle.machine_view.specs.View.{view}
+use Rattle.machine_calls.specs.Tables.{pageBit, objectBit, flagBit, colourAtObject, phaseOf, locksOf, tablesOf, passOf}
+use Rattle.recovery_proof.specs.Lines as Log
+use Rattle.recovery_proof.specs.Shapes.{shapes, recs}
+use Rattle.recovery_proof.proofs.Invariant as Recovery
+use Rattle.recovery_proof.proofs.Appending.{log-intro}
+use Rattle.recovery_proof.proofs.Decided.{SameCells}
+use Rattle.recovery_proof.proofs.Steps.{logOf, log-fresh}
 use Rattle.book_laws.specs.Seen.{Seen, committedOf, seenCommitted, seenFull}
 use Rattle.book_laws.specs.Striking.{entries}
 use Rattle.book_laws.specs.Keeping.{SoundLines, BookInv, openly}

@@ -25,11 +25,11 @@ use Rattle.book.specs.Books.{Stage, opened, storing, Book, committedLines, comm
 use Rattle.book.specs.Feeding.{fed, stepped, atStage}
 use Rattle.collector.specs.Objects.{pageOf}
 use Rattle.collector.specs.State.{mix}
-use Rattle.views.specs.View.{view}
-use Rattle.recovery.specs.Lines as Log
-use Rattle.recovery.specs.Shapes.{shapes}
-use Rattle.recovery.proofs.Cells.{same-self, same-trans, same-mix, same-eq, replay-cells, undo-cells}
-use Rattle.recovery.proofs.Decided.{SameCells, decided}
+use Rattle.machine_view.specs.View.{view}
+use Rattle.recovery_proof.specs.Lines as Log
+use Rattle.recovery_proof.specs.Shapes.{shapes}
+use Rattle.recovery_proof.proofs.Cells.{same-self, same-trans, same-mix, same-eq, replay-cells, undo-cells}
+use Rattle.recovery_proof.proofs.Decided.{SameCells, decided}
 use Rattle.book_laws.proofs.Invariant.{stage-inv}
 use Rattle.book_laws.proofs.Pages.{committed-view}
 use Rattle.demand.proofs.State.{stable, Waiting, StoringInv, Inv3, open-store, cut-store, reopening-store}

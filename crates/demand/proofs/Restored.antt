@@ -17,8 +17,8 @@ use Rattle.calls.specs.Transactions.{restored}
 use Rattle.collector.specs.Bits.{_and_}
 use Rattle.collector.specs.Objects.{pageOf}
 use Rattle.collector.specs.State.{mix}
-use Rattle.views.specs.View.{view}
-use Rattle.shown.specs.Tables.{locksOf, pageBit}
+use Rattle.machine_view.specs.View.{view}
+use Rattle.machine_calls.specs.Tables.{locksOf, pageBit}
 use Rattle.page_laws.specs.BitLaws.{below-suc}
 use Rattle.pages.specs.Geometry.{pageWords}
 use Rattle.records.specs.Records.{txnCount}

@@ -11,8 +11,8 @@ use Rattle.book.specs.Lines.{Line, filtered, pagesAfter}
 use Rattle.book.specs.Books.{Book, countsFull, fullLines, fullPages}
 use Rattle.collector.specs.Objects.{pageOf}
 use Rattle.collector.specs.State.{mix}
-use Rattle.views.specs.View.{view}
-use Rattle.recovery.proofs.Maps.{Small, small-formatted, small-effect, area-ext}
+use Rattle.machine_view.specs.View.{view}
+use Rattle.recovery_proof.proofs.Maps.{Small, small-formatted, small-effect, area-ext}
 use Rattle.book_laws.specs.Seen.{Seen, seenFull}
 use Rattle.book_laws.specs.Keeping.{here, later, SoundLines}
 use Rattle.book_laws.proofs.Acts.{picked-object, picked-tag}

@@ -29,15 +29,15 @@ use Rattle.collector.specs.Bits.{and-false}
 use Rattle.collector.specs.Objects.{Obj, pageOf}
 use Rattle.collector.specs.State.{mix}
 use Rattle.collector.proofs.Tables.{is-false}
-use Rattle.views.specs.View.{view}
-use Rattle.shown.specs.Tables.{locksOf}
-use Rattle.recovery.specs.Lines as Log
-use Rattle.recovery.specs.Shapes.{shapes, recs, writesOcc, writesWord}
-use Rattle.recovery.proofs.Invariant as Recovery
-use Rattle.recovery.proofs.Decided.{SameCells, same-longer}
-use Rattle.recovery.proofs.Cells.{same-self, same-eq}
-use Rattle.recovery.proofs.Naming.{stable-cells}
-use Rattle.recovery.proofs.Steps.{log-fresh}
+use Rattle.machine_view.specs.View.{view}
+use Rattle.machine_calls.specs.Tables.{locksOf}
+use Rattle.recovery_proof.specs.Lines as Log
+use Rattle.recovery_proof.specs.Shapes.{shapes, recs, writesOcc, writesWord}
+use Rattle.recovery_proof.proofs.Invariant as Recovery
+use Rattle.recovery_proof.proofs.Decided.{SameCells, same-longer}
+use Rattle.recovery_proof.proofs.Cells.{same-self, same-eq}
+use Rattle.recovery_proof.proofs.Naming.{stable-cells}
+use Rattle.recovery_proof.proofs.Steps.{log-fresh}
 use Rattle.book_laws.specs.Seen.{seenCommitted}
 use Rattle.book_laws.specs.Striking.{entries}
 use Rattle.book_laws.proofs.Invariant.{force-inv}

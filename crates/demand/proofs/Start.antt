@@ -17,7 +17,7 @@ use Rattle.book.specs.Lines.{filtered, pagesAfter}
 use Rattle.book.specs.Books.{blank, countsCommitted, committedLines}
 use Rattle.book.specs.Pointers.{Reached, root, next, unbroken, Leads}
 use Rattle.collector.specs.Objects.{Obj}
-use Rattle.views.proofs.Effects.{view-word}
+use Rattle.machine_view.proofs.Effects.{view-word}
 use Rattle.book_laws.proofs.Folds.{formatted-length, formatted-view}
 use Rattle.book_laws.proofs.Invariant.{blank-inv}
 use Rattle.book_laws.proofs.Members.{each-nil}

@@ -18,13 +18,13 @@ use Rattle.book.specs.Pointers.{Leads}
 use Rattle.collector.specs.Objects.{Obj, Whole}
 use Rattle.collector.specs.State.{St}
 use Rattle.collector.proofs.Invariant as Collector
-use Rattle.views.specs.View.{view}
-use Rattle.shown.specs.Tables.{locksOf, tablesOf, passOf}
-use Rattle.recovery.specs.Lines as Log
-use Rattle.recovery.specs.Moves as Moves
-use Rattle.recovery.specs.Shapes.{shapes, recs}
-use Rattle.recovery.proofs.Invariant as Recovery
-use Rattle.recovery.proofs.Decided.{SameCells}
+use Rattle.machine_view.specs.View.{view}
+use Rattle.machine_calls.specs.Tables.{locksOf, tablesOf, passOf}
+use Rattle.recovery_proof.specs.Lines as Log
+use Rattle.recovery_proof.specs.Moves as Moves
+use Rattle.recovery_proof.specs.Shapes.{shapes, recs}
+use Rattle.recovery_proof.proofs.Invariant as Recovery
+use Rattle.recovery_proof.proofs.Decided.{SameCells}
 use Rattle.book_laws.specs.Seen.{counted, committedOf, seen, seenCommitted, seenFull}
 use Rattle.book_laws.specs.Striking.{entries}
 use Rattle.book_laws.specs.Keeping.{SoundLines, Runs, BookInv, Writers}

@@ -19,15 +19,15 @@ use Rattle.book.specs.Lines.{Line, filtered, pagesAfter}
 use Rattle.book.specs.Books.{Stage, Book, countsCommitted, committedLines, committedPages, surviving, stopped}
 use Rattle.book.specs.Pointers.{sweeps, Leads}
 use Rattle.collector.specs.Objects.{Obj, fresh, put, Whole}
-use Rattle.views.specs.View.{view, names, applied}
+use Rattle.machine_view.specs.View.{view, names, applied}
 use Rattle.record_laws.specs.RecordLaws.{SoundRecord, sound-record}
 use Rattle.record_laws.specs.SoundRecords.{sweep-spares}
-use Rattle.recovery.specs.Lines as Log
-use Rattle.recovery.specs.Shapes.{shapes}
-use Rattle.recovery.proofs.Appending.{recs-drop, log-prefix}
-use Rattle.recovery.proofs.Decided.{decided}
-use Rattle.views.proofs.Effects.{view-occ}
-use Rattle.recovery.proofs.Steps.{log-recs}
+use Rattle.recovery_proof.specs.Lines as Log
+use Rattle.recovery_proof.specs.Shapes.{shapes}
+use Rattle.recovery_proof.proofs.Appending.{recs-drop, log-prefix}
+use Rattle.recovery_proof.proofs.Decided.{decided}
+use Rattle.machine_view.proofs.Effects.{view-occ}
+use Rattle.recovery_proof.proofs.Steps.{log-recs}
 use Rattle.book_laws.specs.Seen.{counted, committedOf, seen}
 use Rattle.book_laws.specs.Keeping.{here, later, SoundLines, BookInv}
 use Rattle.book_laws.proofs.Folds.{after-view}

@@ -39,16 +39,16 @@ use Rattle.collector.specs.Calls as C
 use Rattle.collector.proofs.Facts.{dead-facts}
 use Rattle.collector.proofs.Invariant as Collector
 use Rattle.collector.proofs.Sweep.{keep-sweep}
-use Rattle.views.specs.View.{view, applied}
-use Rattle.views.proofs.Places.{page-of-at, slot-of-at}
-use Rattle.shown.specs.Tables.{phaseOf, locksOf, tablesOf}
-use Rattle.shown_pass.proofs.PassFacts.{unlocked-unwritten}
-use Rattle.shown_pass.proofs.Sweep.{deadAt-is, swept-view, on-locks, on-tables, on-pass}
-use Rattle.recovery.proofs.Decided.{SameCells, some-first}
-use Rattle.recovery.proofs.Invariant as Recovery
-use Rattle.views.proofs.Effects.{view-occ}
+use Rattle.machine_view.specs.View.{view, applied}
+use Rattle.machine_view.proofs.Places.{page-of-at, slot-of-at}
+use Rattle.machine_calls.specs.Tables.{phaseOf, locksOf, tablesOf}
+use Rattle.machine_pass.proofs.PassFacts.{unlocked-unwritten}
+use Rattle.machine_pass.proofs.Sweep.{deadAt-is, swept-view, on-locks, on-tables, on-pass}
+use Rattle.recovery_proof.proofs.Decided.{SameCells, some-first}
+use Rattle.recovery_proof.proofs.Invariant as Recovery
+use Rattle.machine_view.proofs.Effects.{view-occ}
 use Rattle.record_laws.specs.SoundRecords.{sweep-sound}
-use Rattle.recovery.proofs.Steps.{logOf, log-sweep}
+use Rattle.recovery_proof.proofs.Steps.{logOf, log-sweep}
 use Rattle.book_laws.specs.After.{sweptBy}
 use Rattle.book_laws.specs.Seen.{Seen, acted, seenCommitted, seenFull}
 use Rattle.book_laws.specs.Keeping.{SoundLines}

@@ -19,11 +19,11 @@ use Rattle.records.specs.Order.{openIn, openNext}
 use Rattle.book.specs.Lines.{Line}
 use Rattle.collector.specs.Bits.{_and_, and-false}
 use Rattle.collector.specs.Objects.{Obj}
-use Rattle.recovery.specs.Lines as Log
-use Rattle.recovery.specs.Shapes.{shapes, recs, bounds, onlyChanges, undoings}
-use Rattle.recovery.proofs.Counting.{apart, book-agree}
-use Rattle.recovery.proofs.Shapes.{shape-aborted, shape-change}
-use Rattle.recovery.proofs.Changes.{only-bound, only-next}
+use Rattle.recovery_proof.specs.Lines as Log
+use Rattle.recovery_proof.specs.Shapes.{shapes, recs, bounds, onlyChanges, undoings}
+use Rattle.recovery_proof.proofs.Counting.{apart, book-agree}
+use Rattle.recovery_proof.proofs.Shapes.{shape-aborted, shape-change}
+use Rattle.recovery_proof.proofs.Changes.{only-bound, only-next}
 use Rattle.book_laws.specs.Striking.{entries, undoingOnto}
 use Rattle.book_laws.specs.Keeping.{here, later, Each, Since, atBegin, newer, changesSince}
 

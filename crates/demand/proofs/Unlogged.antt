@@ -12,11 +12,11 @@ use Rattle.book.specs.Books.{Book, runs, fullLines}
 use Rattle.collector.specs.Objects.{Obj}
 use Rattle.collector.specs.State.{St, Locks}
 use Rattle.collector.proofs.Invariant as Collector
-use Rattle.views.specs.View.{view}
-use Rattle.shown.specs.Tables.{locksOf, tablesOf}
-use Rattle.shown.proofs.Shows.{Shows}
-use Rattle.recovery.proofs.Invariant as Recovery
-use Rattle.recovery.proofs.Decided.{SameCells}
+use Rattle.machine_view.specs.View.{view}
+use Rattle.machine_calls.specs.Tables.{locksOf, tablesOf}
+use Rattle.machine_calls.proofs.Shows.{Shows}
+use Rattle.recovery_proof.proofs.Invariant as Recovery
+use Rattle.recovery_proof.proofs.Decided.{SameCells}
 use Rattle.book_laws.specs.Seen.{seenCommitted, seenFull}
 use Rattle.book_laws.specs.Keeping.{BookInv, openly}
 use Rattle.demand.proofs.State.{machine, received, logged, LogInv, OpenInv}

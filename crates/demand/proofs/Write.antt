@@ -27,13 +27,13 @@ use Rattle.collector.specs.State.{Tables}
 use Rattle.collector.specs.Calls as C
 use Rattle.collector.proofs.Invariant as Collector
 use Rattle.collector.proofs.Write.{keep-set}
-use Rattle.shown.specs.Tables.{tablesOf}
-use Rattle.shown.proofs.Areas.{reference}
-use Rattle.shown.proofs.Facts as Facts
-use Rattle.shown.proofs.Written.{writes, set-beside, set-tables}
-use Rattle.shown.proofs.Shows.{set-shows}
-use Rattle.views.proofs.Effects.{view-word}
-use Rattle.recovery.proofs.Reversal.{set-back}
+use Rattle.machine_calls.specs.Tables.{tablesOf}
+use Rattle.machine_calls.proofs.Areas.{reference}
+use Rattle.machine_calls.proofs.Facts as Facts
+use Rattle.machine_calls.proofs.Written.{writes, set-beside, set-tables}
+use Rattle.machine_calls.proofs.Shows.{set-shows}
+use Rattle.machine_view.proofs.Effects.{view-word}
+use Rattle.recovery_proof.proofs.Reversal.{set-back}
 use Rattle.book_laws.specs.Seen.{Seen, acted, seenFull}
 use Rattle.book_laws.proofs.Acts.{set-acts}
 use Rattle.record_laws.specs.SoundRecords.{set-sound}

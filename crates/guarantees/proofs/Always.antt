@@ -46,12 +46,12 @@ use Rattle.book.specs.Feeding.{fed}
 use Rattle.book.specs.Demand.{Event, call, power, Point, accepts, after, start}
 use Rattle.collector.specs.Objects as O
 use Rattle.collector.specs.State as M
-use Rattle.shown.specs.Tables.{phaseOf}
+use Rattle.machine_calls.specs.Tables.{phaseOf}
 use Rattle.records.specs.Records.{setOf, recordWords, maxRecords}
 use Rattle.collector.specs.Objects.{Obj}
-use Rattle.views.proofs.Places.{page-of-at, slot-of-at}
-use Rattle.recovery.proofs.Maps.{small-formatted}
-use Rattle.views.proofs.Effects.{view-occ, view-word}
+use Rattle.machine_view.proofs.Places.{page-of-at, slot-of-at}
+use Rattle.recovery_proof.proofs.Maps.{small-formatted}
+use Rattle.machine_view.proofs.Effects.{view-occ, view-word}
 use Rattle.book_laws.specs.Seen.{committedOf}
 use Rattle.book_laws.proofs.Folds.{formatted-length, formatted-view}
 use Rattle.book_laws.proofs.Sweeps.{sweep-kept}

@@ -41,14 +41,14 @@ use Rattle.book.specs.Books.{Book, countsCommitted, countsFull, committedLines,
 use Rattle.book.specs.Feeding.{adds, learns, begins}
 use Rattle.collector.proofs.Known.{known-there}
 use Rattle.collector.specs.Objects.{Obj}
-use Rattle.views.specs.View.{view}
-use Rattle.shown.specs.Tables.{locksOf}
-use Rattle.shown.proofs.Facts.{act-is, kn-is}
-use Rattle.recovery.proofs.Changes.{changes-left}
-use Rattle.recovery.proofs.Maps.{Small}
-use Rattle.views.proofs.Effects.{view-occ}
-use Rattle.recovery.proofs.Reopening.{log-sound}
-use Rattle.recovery.proofs.Rolling.{Undoable, changes-undoable, rolled-rest}
+use Rattle.machine_view.specs.View.{view}
+use Rattle.machine_calls.specs.Tables.{locksOf}
+use Rattle.machine_calls.proofs.Facts.{act-is, kn-is}
+use Rattle.recovery_proof.proofs.Changes.{changes-left}
+use Rattle.recovery_proof.proofs.Maps.{Small}
+use Rattle.machine_view.proofs.Effects.{view-occ}
+use Rattle.recovery_proof.proofs.Reopening.{log-sound}
+use Rattle.recovery_proof.proofs.Rolling.{Undoable, changes-undoable, rolled-rest}
 use Rattle.book_laws.specs.Seen.{Seen, committedOf, seenCommitted, seenFull}
 use Rattle.book_laws.specs.Keeping.{Runs}
 use Rattle.book_laws.specs.After.{committedBy, abortedBy, sweptBy}

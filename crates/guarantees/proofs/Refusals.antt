@@ -46,8 +46,8 @@ use Rattle.book_laws.specs.Seen.{committedOf}
 use Rattle.demand.proofs.State.{machine, Waiting, Inv3}
 use Rattle.demand.proofs.Change.{machine-shows}
 use Rattle.demand.proofs.Stopping.{stops}
-use Rattle.shown.proofs.Facts.{act-is}
-use Rattle.recovery.proofs.Changes.{changes-left}
+use Rattle.machine_calls.proofs.Facts.{act-is}
+use Rattle.recovery_proof.proofs.Changes.{changes-left}
 use Rattle.demand.proofs.Reopen.{recovered-committed}
 use Rattle.guarantees.specs.Points.{AtEvery, last, then, Always}
 use Rattle.guarantees.specs.Refusals.{Reopenable, NeverUnsound, Endable, RoomToEnd, ownFits, WellFormed, NeverMalformed}

@@ -19,7 +19,7 @@ use Rattle.records.specs.Order.{openIn, openNext}
 use Rattle.record_laws.specs.RecordLaws.{begunIn, changesNext, open-append, begun-append, changes-append, recorded-length}
 use Rattle.areas.specs.Areas.{Areas, receivedCount, appended}
 use Rattle.calls.specs.Transactions.{rolledBack}
-use Rattle.recovery.proofs.Rolling.{Undoable}
+use Rattle.recovery_proof.proofs.Rolling.{Undoable}
 use Rattle.book_laws.proofs.Ends.{undoing-kind}
 
 -- what transaction u holds in reserve, in a log of c records, and all of them

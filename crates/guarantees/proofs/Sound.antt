@@ -17,10 +17,10 @@ use Rattle.records.specs.Effects.{effect}
 use Rattle.book.specs.Lines.{Line, line, filtered, hasCommit, pagesAfter}
 use Rattle.book.specs.Books.{Stage, Book, stopped}
 use Rattle.collector.specs.Objects.{Obj}
-use Rattle.views.specs.View.{view}
-use Rattle.views.proofs.Places.{page-of-at, slot-of-at}
-use Rattle.recovery.proofs.Maps.{Small}
-use Rattle.views.proofs.Effects.{view-occ, view-word}
+use Rattle.machine_view.specs.View.{view}
+use Rattle.machine_view.proofs.Places.{page-of-at, slot-of-at}
+use Rattle.recovery_proof.proofs.Maps.{Small}
+use Rattle.machine_view.proofs.Effects.{view-occ, view-word}
 use Rattle.book_laws.specs.Seen.{counted, committedOf}
 use Rattle.book_laws.proofs.Committed.{filtered-same, Alike}
 use Rattle.book_laws.proofs.Pages.{committed-of}

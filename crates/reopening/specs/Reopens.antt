@@ -23,8 +23,8 @@ use Rattle.areas.specs.Areas.{areas, out, checked-pass, checked-refuse}
 use Rattle.areas.specs.Layout.{reopeningAt, running}
 use Rattle.areas.specs.Ranges.{pagesIn, recordsIn, fit}
 use Rattle.calls.specs.Reopening.{reopenTests, reopened, callReopen}
-use Rattle.recovering.specs.declared.Scan.the-variants.{Open, Refuse}
-use Rattle.recovering.specs.Reading.{foundOf, found-sound, found-unsound}
+use Rattle.log_replay.specs.declared.Scan.the-variants.{Open, Refuse}
+use Rattle.log_replay.specs.Reading.{foundOf, found-sound, found-unsound}
 
 -- 'a free slot that is not zero' after the undoing is unsound: stored pages a, n of them, and the first c records of g
 abbrev pub freeAfter : List ℕ → List ℕ → ℕ → ℕ → Bool

@@ -45,7 +45,7 @@ fn recover_in(
     requires { ⌜ (length (now room) ≡ length (now stored)) × (length (now copies) ≡ length (now stored)) × (length (now received) ≡ length (now stored)) × (length (now stored) ≡ pageWords * n) × (recordWords * c ≤ length (now log)) × (recordsSound n (now log) c ≡ true) × (m ≡ openIn (now log) c) ⌝ }
     ensures { λ b. ⌜ (b ≡ freeAfter (now (stored .entry)) (now (log .entry)) n c) × (now (copies .exit) ≡ if b (recovered (now (stored .entry)) (now (log .entry)) c) (now (copies .entry))) × (now (received .exit) ≡ if b (recovered (now (stored .entry)) (now (log .entry)) c) (now (received .entry))) ⌝ }
 {
-    if !recovering::recover(stored, room, log, n, c, m) {
+    if !log_replay::recover(stored, room, log, n, c, m) {
         return false;
     }
     page_ops::areas::copy_area(room, received);

@@ -8,9 +8,9 @@ use areas::Answer;
 use areas::Check;
 use areas::Refusal;
 use areas::layout;
+use log_replay::Scan;
 use pages::PAGE_WORDS;
 use records::RECORD_WORDS;
-use recovering::Scan;
 
 // Reopens: received pages and copies become what the stored pages and the stable records give. Looks at the lengths, the stored pages,
 // the stable count and its records only, and may be called at any time.
@@ -36,14 +36,14 @@ pub fn reopen(
     }
     let n = stored.len() / PAGE_WORDS;
     let stable = counts[layout::STABLE] as usize;
-    let s = recovering::find_open(stored, log, n, log.len() / RECORD_WORDS, stable);
+    let s = log_replay::find_open(stored, log, n, log.len() / RECORD_WORDS, stable);
     match s {
         Scan::Refuse(x) => Answer::Refused(x),
         Scan::Open(m) => {
             if !reopening::recover_both(stored, copies, received, log, n, stable, m) {
                 return Answer::Refused(Refusal::Unsound);
             }
-            recovering::restart(counts, work);
+            log_replay::restart(counts, work);
             Answer::Done(0)
         }
     }

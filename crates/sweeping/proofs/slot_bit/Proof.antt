@@ -4,9 +4,6 @@ use borrow.Author.Needs.{needs}
 use Rattle.sweeping.proofs.slot_bit.Statement.{statement}
 use Rattle.sweeping.proofs.slot_bit.Tie as tie
 
-mask-of-requires : tie.Need-mask-of-requires
-mask-of-requires c κs = search needs
-
 returns : tie.Need-returns
 returns c = c .mask-of .ensures ∙ sym (if-t _ _ _ (c .before .if1 .taken))
 
@@ -14,4 +11,4 @@ returns-2 : tie.Need-returns-2
 returns-2 c = sym (if-f _ _ _ (c .if1 .left))
 
 pub slot-bit-spec : {M : Type 1} → statement M
-slot-bit-spec = tie.close (tie.spec mask-of-requires returns returns-2)
+slot-bit-spec = tie.close (tie.spec (λ c κs. search needs) returns returns-2)

@@ -8,30 +8,6 @@ use borrow.Author.Needs.{needs}
 use Rattle.objects.proofs.flushing.copy_rows.Statement.{statement}
 use Rattle.objects.proofs.flushing.copy_rows.Tie as tie
 
-mul-copies : tie.Need-mul-copies
-mul-copies c = search needs
-
-mul-copies-2 : tie.Need-mul-copies-2
-mul-copies-2 c = search needs
-
-shared-slice-read-copies : tie.Need-shared-slice-read-copies
-shared-slice-read-copies c = search needs
-
-mul-copies-3 : tie.Need-mul-copies-3
-mul-copies-3 c = search needs
-
-mul-copies-4 : tie.Need-mul-copies-4
-mul-copies-4 c = search needs
-
-slice-write-copies : tie.Need-slice-write-copies
-slice-write-copies c = search needs
-
-rows-of-requires : tie.Need-rows-of-requires
-rows-of-requires c κs = search needs
-
-put-rows-requires : tie.Need-put-rows-requires
-put-rows-requires c κs = search needs
-
 same-length : tie.Need-same-length
 same-length c = c .before .before .put-rows .kept .0 ∙ simp length-set
 
@@ -42,13 +18,13 @@ pub copy-rows-spec : {M : Type 1} → statement M
 copy-rows-spec =
     tie.close
     (tie.spec
-    mul-copies
-    mul-copies-2
-    shared-slice-read-copies
-    mul-copies-3
-    mul-copies-4
-    slice-write-copies
-    rows-of-requires
-    put-rows-requires
+    (λ c. search needs)
+    (λ c. search needs)
+    (λ c. search needs)
+    (λ c. search needs)
+    (λ c. search needs)
+    (λ c. search needs)
+    (λ c κs. search needs)
+    (λ c κs. search needs)
     same-length
     returns)
