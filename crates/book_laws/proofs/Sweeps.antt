@@ -44,7 +44,7 @@ map-bits (suc k) m h =
     (λ e. rw e (let z = eqb-false (m % 2) 1 e in omega arith)))
 
 module _ (before after : List ℕ) where
-  pub cleared-is : (p m : ℕ) → m < 65536 → ((s : ℕ) → s < slotCount → (taken before p s && not (taken after p s)) ≡ bit m s) → clearedSlots before after p ≡ m
+  pub cleared-is : (p m : ℕ) → m < 2 ^ slotCount → ((s : ℕ) → s < slotCount → (taken before p s && not (taken after p s)) ≡ bit m s) → clearedSlots before after p ≡ m
   unfolding clearedSlots
   cleared-is p m h k = map-same (λ s. taken before p s && not (taken after p s)) (bit m) 16 k ∙ map-bits 16 m h
 
@@ -78,7 +78,7 @@ pub sweep-kept : (before after : List ℕ) (ls : List Line) (n : ℕ) → ((q : 
 sweep-kept before after ls n h = sweep-none before after ls n (λ q l. cleared-none before after q (λ s k. rw (h q l) (never (taken before q s))))
 
 -- where slots of page p that were taken are released
-pub sweep-released : (n : ℕ) (a : List ℕ) → length a ≡ pageWords * n → (ls : List Line) (p m : ℕ) → p < n → m < 65536 → (m ≡ 0 → ⊥)
+pub sweep-released : (n : ℕ) (a : List ℕ) → length a ≡ pageWords * n → (ls : List Line) (p m : ℕ) → p < n → m < 2 ^ slotCount → (m ≡ 0 → ⊥)
     → ((s : ℕ) → s < slotCount → bit m s ≡ true → taken a p s ≡ true) → sweepLines a (released a p m) ls n ≡ line (sweepOf p m) 0 ∷ ls
 sweep-released n a len ls p m hp hm some inside = sweep-one a (released a p m) ls p m
     (cleared-is a (released a p m) p m hm (λ s l. there s l)) some n hp

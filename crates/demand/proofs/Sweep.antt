@@ -1,5 +1,5 @@
 -- A sweeping step that frees objects of its page keeps the invariant. n is the number of pages. Assumes nothing.
-use Prim.Native.Nat.{ℕ, zero, suc, _≤_, _<_}
+use Prim.Native.Nat.{ℕ, zero, suc, _≤_, _<_, _^_}
 use native.Mathlib.Omega.{arith}
 use mathlib.Core.Path.{_≡_, refl, sym, ap, _∙_}
 use mathlib.Core.Bool.{Bool, true, false, cond, _&&_}
@@ -115,7 +115,7 @@ module _ (n : ℕ) (some : 1 ≤ n) (s : Areas) (b : Book) (i : OpenInv n s b) (
   freed zero = spared ∙ sym (dead-is 0 ∙ and-false (eqb page (Geometry.pageOf 0) && bit map (slotOf 0)))
   freed (suc k) = sym (dead-is (suc k) ∙ rw (le-leb 1 (suc k) (omega arith)) (and-true (eqb page (Geometry.pageOf (suc k)) && bit map (slotOf (suc k)))))
 
-  small : map < 65536
+  small : map < 2 ^ slotCount
   unfolding sweepMap
   small = map-lt (λ k. taken (s .copies) page k && unmarked (s .work) n page k) 16
 

@@ -10,7 +10,7 @@ use borrow.Author.Tests.{le-leb, eq-eqb, eqb-true, eqb-false, ltb-true}
 use Rattle.words.specs.Tests.{if, all, by-bool, clash, and-split, all-intro, all-at}
 use Rattle.words.specs.Bits.{bit}
 use Rattle.words.specs.Spans.{same}
-use Rattle.pages.specs.Geometry.{pageWords, slotWords, objectCount, root, pageOf, isObject}
+use Rattle.pages.specs.Geometry.{pageWords, slotWords, objectCount, root, pageOf, isObject, maxPages}
 use Rattle.pages.specs.Objects.{occupied}
 use Rattle.pages.specs.Soundness.{areaSound, mapSound, refsSound, pageSound, freeZero}
 use Rattle.records.specs.Changes.{changesLeft}
@@ -55,7 +55,7 @@ use Rattle.guarantees.proofs.Fine.{Fine}
 use Rattle.guarantees.proofs.Sound.{firm-stop}
 use Rattle.guarantees.proofs.Reserve.{share, share-held}
 use Rattle.guarantees.proofs.Always.{as-open, Sure, keep-sure, start-sure}
-use Rattle.records.specs.Records.{recordWords, txnCount}
+use Rattle.records.specs.Records.{recordWords, txnCount, maxRecords}
 
 -- what the invariants give at a point holds at every point
 pub at-every : (n : ℕ) → 1 ≤ n → (Q : Point → Type 0) → ((q : Point) → Sure n q → Q q) → (es : List Event) (q : Point) → Sure n q → AtEvery n Q q es
@@ -72,12 +72,12 @@ fits n s z =
     let c = z .count in
     rw (
       le-leb 1 (pages s) (let l = z .low in omega arith),
-      le-leb (pages s) 256 (let l = z .top in omega arith),
+      le-leb (pages s) maxPages (let l = z .top in omega arith),
       eq-eqb (length (s .stored)) (pageWords * pages s) (z .stored-len ∙ ap (λ (m : ℕ). pageWords * m) (sym c)),
       eq-eqb (length (s .copies)) (length (s .stored)) (z .copies-len ∙ sym (z .stored-len)),
       eq-eqb (length (s .received)) (length (s .stored)) (z .received-len ∙ sym (z .stored-len)),
       le-leb 1 (records s) (z .log-low),
-      le-leb (records s) 4096 (z .log-top),
+      le-leb (records s) maxRecords (z .log-top),
       eq-eqb (length (s .log)) (recordWords * records s) (z .log-len),
       eq-eqb (length (s .counts)) 2 (z .counts-len),
     )

@@ -1,5 +1,5 @@
 -- Working words in range: each word by its place, and that every change a call makes keeps it. n is the number of pages. Assumes nothing.
-use Prim.Native.Nat.{ℕ, zero, suc, _+_, _*_, _-_, _≤_, _<_}
+use Prim.Native.Nat.{ℕ, zero, suc, _+_, _*_, _-_, _≤_, _<_, _^_}
 use native.Mathlib.Omega.{arith}
 use native.Mathlib.Decide.{ℕ-discrete, decLt}
 use mathlib.Core.Path.{_≡_, refl, _∙_}
@@ -16,7 +16,7 @@ use Rattle.pages.specs.Geometry.{isRef, pageOf, root, objectCount, slotWords}
 use Rattle.pages.specs.Objects.{wordOf, occupied}
 use Rattle.pages.specs.Soundness.{areaSound}
 use Rattle.page_laws.specs.SoundFacts.{ref-in-range}
-use Rattle.areas.specs.Layout.{phaseAt, passPageAt, stepsAt, activeAt, readersAt, writersAt, unflushedAt, knownAt, prunedAt, createdAt, colourAt, Row, tableWords, stepsTop}
+use Rattle.areas.specs.Layout.{phaseAt, passPageAt, stepsAt, activeAt, readersAt, writersAt, unflushedAt, knownAt, prunedAt, createdAt, colourAt, Row, tableWords, stepsTop, prunedFrom, writersFrom, knownFrom, unflushedFrom, coloursFrom, createdFrom, flaggedTop}
 use Rattle.areas.specs.Ranges.{rowsInRange, workInRange}
 use Rattle.areas.specs.Tables.{at, gain, lose, flag, greyed, withPass, stepsNext, canWrite, isWhite, isMarking, passRuns, passFirst, passEnd, mayMark}
 use Rattle.acceptance.specs.Working.{Working}
@@ -24,7 +24,7 @@ use Rattle.calls.specs.Locks.{readLocked, writeLocked}
 use Rattle.calls.specs.Objects.{learned, pruned, prunes}
 use Rattle.calls.specs.Pass.{unflagged, firstColour, passStarted, targetsGreyed, scanned, advanced}
 use Rattle.calls.specs.Transactions.{leaves, knowsRoot, endedEntry, endedEntries, endedTables}
-use Rattle.records.specs.Records.{txnCount}
+use Rattle.records.specs.Records.{txnCount, maskTop}
 
 -- v is in range at word i
 pub data Fits (n i v : ℕ) : Type 0 where
@@ -33,9 +33,9 @@ pub data Fits (n i v : ℕ) : Type 0 where
   phase : i ≡ 2 → v ≤ 2 → Fits n i v
   pass-page : i ≡ 3 → v < n → Fits n i v
   steps : i ≡ 4 → v ≤ stepsTop n → Fits n i v
-  mask : 5 ≤ i → i < 6 + 19 * n → v < 65536 → Fits n i v
-  flagged : 6 + 19 * n ≤ i → i < 6 + 51 * n → v < 131072 → Fits n i v
-  colour : 6 + 51 * n ≤ i → v ≤ 2 → Fits n i v
+  mask : activeAt ≤ i → i < prunedFrom n → v < 2 ^ txnCount → Fits n i v
+  flagged : prunedFrom n ≤ i → i < coloursFrom n → v < 2 ^ (txnCount + 1) → Fits n i v
+  colour : coloursFrom n ≤ i → v ≤ 2 → Fits n i v
 
 pub record Within (w : List ℕ) (n : ℕ) : Type 0 where
   pub size : length w ≡ tableWords n
@@ -43,7 +43,7 @@ pub record Within (w : List ℕ) (n : ℕ) : Type 0 where
 
 -- what a fitting word is at most
 module _ (n i v : ℕ) where
-  fits-mask : Fits n i v → 5 ≤ i → i < 6 + 19 * n → v ≤ 65535
+  fits-mask : Fits n i v → activeAt ≤ i → i < prunedFrom n → v ≤ maskTop
   fits-mask (word e l) a b = absurd (omega arith)
   fits-mask (reopening-page e l) a b = absurd (omega arith)
   fits-mask (phase e l) a b = absurd (omega arith)
@@ -53,7 +53,7 @@ module _ (n i v : ℕ) where
   fits-mask (flagged p q l) a b = absurd (omega arith)
   fits-mask (colour p l) a b = absurd (omega arith)
 
-  fits-flagged : Fits n i v → 6 + 19 * n ≤ i → i < 6 + 51 * n → v ≤ 131071
+  fits-flagged : Fits n i v → prunedFrom n ≤ i → i < coloursFrom n → v ≤ flaggedTop
   fits-flagged (word e l) a b = absurd (omega arith)
   fits-flagged (reopening-page e l) a b = absurd (omega arith)
   fits-flagged (phase e l) a b = absurd (omega arith)
@@ -63,7 +63,7 @@ module _ (n i v : ℕ) where
   fits-flagged (flagged p q l) a b = omega arith
   fits-flagged (colour p l) a b = absurd (omega arith)
 
-  fits-colour : Fits n i v → 6 + 51 * n ≤ i → v ≤ 2
+  fits-colour : Fits n i v → coloursFrom n ≤ i → v ≤ 2
   fits-colour (word e l) a = absurd (omega arith)
   fits-colour (reopening-page e l) a = absurd (omega arith)
   fits-colour (phase e l) a = absurd (omega arith)
@@ -127,14 +127,14 @@ fits-of w n k i l = choose i 1 (λ a. word (omega arith) (at-place w 2 i 0 (omeg
     (λ b. choose i 3 (λ a. phase (omega arith) (at-place w 2 i 2 (omega arith) (k .phase)))
     (λ b. choose i 4 (λ a. pass-page (omega arith) (let e : i ≡ 3 = omega arith in rw e (k .pass-page)))
     (λ b. choose i 5 (λ a. steps (omega arith) (at-place w (stepsTop n) i 4 (omega arith) (k .steps)))
-    (λ b. choose i 6 (λ a. masked 65536 i 5 (omega arith) (k .active) (mask (omega arith) (omega arith)))
-    (λ b. choose i (6 + n) (λ a. masked 65536 i (readersAt n (i - 6)) (omega arith) (k .readers (i - 6) (omega arith)) (mask (omega arith) (omega arith)))
-    (λ b. choose i (6 + 2 * n) (λ a. masked 65536 i (writersAt n (i - (6 + n))) (omega arith) (k .writers (i - (6 + n)) (omega arith)) (mask (omega arith) (omega arith)))
-    (λ b. choose i (6 + 3 * n) (λ a. masked 65536 i (unflushedAt n (i - (6 + 2 * n))) (omega arith) (k .unflushed (i - (6 + 2 * n)) (omega arith)) (mask (omega arith) (omega arith)))
-    (λ b. choose i (6 + 19 * n) (λ a. masked 65536 i (knownAt n (i - (6 + 3 * n) + 1)) (omega arith) (k .known (i - (6 + 3 * n) + 1) (omega arith) (omega arith)) (mask (omega arith) (omega arith)))
-    (λ b. choose i (6 + 35 * n) (λ a. masked 131072 i (prunedAt n (i - (6 + 19 * n) + 1)) (omega arith) (k .pruned (i - (6 + 19 * n) + 1) (omega arith) (omega arith)) (flagged (omega arith) (omega arith)))
-    (λ b. choose i (6 + 51 * n) (λ a. masked 131072 i (createdAt n (i - (6 + 35 * n) + 1)) (omega arith) (k .created (i - (6 + 35 * n) + 1) (omega arith) (omega arith)) (flagged (omega arith) (omega arith)))
-    (λ b. colour b (at-place w 2 i (colourAt n (i - (6 + 51 * n) + 1)) (omega arith) (k .colours (i - (6 + 51 * n) + 1) (omega arith) (omega arith)))))))))))))))
+    (λ b. choose i 6 (λ a. masked (2 ^ txnCount) i 5 (omega arith) (k .active) (mask (omega arith) (omega arith)))
+    (λ b. choose i (writersFrom n) (λ a. masked (2 ^ txnCount) i (readersAt n (i - 6)) (omega arith) (k .readers (i - 6) (omega arith)) (mask (omega arith) (omega arith)))
+    (λ b. choose i (unflushedFrom n) (λ a. masked (2 ^ txnCount) i (writersAt n (i - (writersFrom n))) (omega arith) (k .writers (i - (writersFrom n)) (omega arith)) (mask (omega arith) (omega arith)))
+    (λ b. choose i (knownFrom n) (λ a. masked (2 ^ txnCount) i (unflushedAt n (i - (unflushedFrom n))) (omega arith) (k .unflushed (i - (unflushedFrom n)) (omega arith)) (mask (omega arith) (omega arith)))
+    (λ b. choose i (prunedFrom n) (λ a. masked (2 ^ txnCount) i (knownAt n (i - (knownFrom n) + 1)) (omega arith) (k .known (i - (knownFrom n) + 1) (omega arith) (omega arith)) (mask (omega arith) (omega arith)))
+    (λ b. choose i (createdFrom n) (λ a. masked (2 ^ (txnCount + 1)) i (prunedAt n (i - (prunedFrom n) + 1)) (omega arith) (k .pruned (i - (prunedFrom n) + 1) (omega arith) (omega arith)) (flagged (omega arith) (omega arith)))
+    (λ b. choose i (coloursFrom n) (λ a. masked (2 ^ (txnCount + 1)) i (createdAt n (i - (createdFrom n) + 1)) (omega arith) (k .created (i - (createdFrom n) + 1) (omega arith) (omega arith)) (flagged (omega arith) (omega arith)))
+    (λ b. colour b (at-place w 2 i (colourAt n (i - (coloursFrom n) + 1)) (omega arith) (k .colours (i - (coloursFrom n) + 1) (omega arith) (omega arith)))))))))))))))
   where
     masked : {A : Type 0} (top i j : ℕ) → i ≡ j → at w j < top → (at w i < top → A) → A
     masked top i j e h f = f (rw e h)
@@ -156,20 +156,20 @@ set-within w n i v h f = record {
 }
 
 -- a bit set or cleared in a mask
-with-fits : (n i m t : ℕ) → 5 ≤ i → i < 6 + 51 * n → t < txnCount → Fits n i m → Fits n i (withBit m t)
-with-fits n i m t a b l f = choose i (6 + 19 * n)
+with-fits : (n i m t : ℕ) → activeAt ≤ i → i < coloursFrom n → t < txnCount → Fits n i m → Fits n i (withBit m t)
+with-fits n i m t a b l f = choose i (prunedFrom n)
     (λ k. mask a k (with-lt m t 16 (let z = fits-mask n i m f a k in omega arith) l))
     (λ k. flagged k b (with-lt m t 17 (let z = fits-flagged n i m f k b in omega arith) (omega arith)))
 
-without-fits : (n i m t : ℕ) → 5 ≤ i → i < 6 + 51 * n → Fits n i m → Fits n i (withoutBit m t)
-without-fits n i m t a b f = let d = without-le m t in choose i (6 + 19 * n)
+without-fits : (n i m t : ℕ) → activeAt ≤ i → i < coloursFrom n → Fits n i m → Fits n i (withoutBit m t)
+without-fits n i m t a b f = let d = without-le m t in choose i (prunedFrom n)
     (λ k. mask a k (let z = fits-mask n i m f a k in omega arith))
     (λ k. flagged k b (let z = fits-flagged n i m f k b in omega arith))
 
-pub gain-within : (w : List ℕ) (n i t : ℕ) → Within w n → 5 ≤ i → i < 6 + 51 * n → t < txnCount → Within (gain w i t) n
+pub gain-within : (w : List ℕ) (n i t : ℕ) → Within w n → activeAt ≤ i → i < coloursFrom n → t < txnCount → Within (gain w i t) n
 gain-within w n i t h a b l = set-within w n i (withBit (at w i) t) h (with-fits n i (at w i) t a b l (h .fits i (omega arith)))
 
-pub lose-within : (w : List ℕ) (n i t : ℕ) → Within w n → 5 ≤ i → i < 6 + 51 * n → Within (lose w i t) n
+pub lose-within : (w : List ℕ) (n i t : ℕ) → Within w n → activeAt ≤ i → i < coloursFrom n → Within (lose w i t) n
 lose-within w n i t h a b = set-within w n i (withoutBit (at w i) t) h (without-fits n i (at w i) t a b (h .fits i (omega arith)))
 
 -- runs of words
@@ -186,10 +186,10 @@ unfolding fill
 fill-within g w n a zero h f = h
 fill-within g w n a (suc k) h f = set-within (fill g w a k) n (a + k) (g k) (fill-within g w n a k h (λ j l. f j (omega arith))) (f k (omega arith))
 
-leaves-within : (t : ℕ) (w : List ℕ) (n a k : ℕ) → Within w n → 5 ≤ a → a + k ≤ 6 + 51 * n → Within (leaves t w a k) n
+leaves-within : (t : ℕ) (w : List ℕ) (n a k : ℕ) → Within w n → activeAt ≤ a → a + k ≤ coloursFrom n → Within (leaves t w a k) n
 leaves-within t w n a k h p q = over-within (λ m. withoutBit m t) w n a k h (omega arith) (λ i v x y f. without-fits n i v t (omega arith) (omega arith) f)
 
-ended-fits : (n i : ℕ) (runs : Bool) (t m : ℕ) → 6 + 19 * n ≤ i → i < 6 + 51 * n → Fits n i m → Fits n i (endedEntry runs t m)
+ended-fits : (n i : ℕ) (runs : Bool) (t m : ℕ) → prunedFrom n ≤ i → i < coloursFrom n → Fits n i m → Fits n i (endedEntry runs t m)
 ended-fits n i runs t m a b f =
     let z = fits-flagged n i m f a b in let d = without-le m t in
     by-bool (bit m t)
@@ -198,7 +198,7 @@ ended-fits n i runs t m a b f =
     (λ r. rw (e, r) (flagged a b (omega arith))))
     (λ e. rw e f)
 
-entries-within : (t : ℕ) (w : List ℕ) (n a k : ℕ) → Within w n → 6 + 19 * n ≤ a → a + k ≤ 6 + 51 * n → Within (endedEntries t w a k) n
+entries-within : (t : ℕ) (w : List ℕ) (n a k : ℕ) → Within w n → prunedFrom n ≤ a → a + k ≤ coloursFrom n → Within (endedEntries t w a k) n
 entries-within t w n a k h p q = over-within (endedEntry (passRuns w) t) w n a k h (omega arith) (λ i v x y f. ended-fits n i (passRuns w) t v (omega arith) (omega arith) f)
 
 -- the calls' tables
@@ -262,7 +262,7 @@ module _ (w : List ℕ) (n : ℕ) (some : 1 ≤ n) (h : Within w n) where
   unfolding unflagged
   unflagged-within = unflag _ (createdAt n 1) (unflag w (prunedAt n 1) h (omega arith) (omega arith)) (omega arith) (omega arith)
     where
-      unflag : (v : List ℕ) (a : ℕ) → Within v n → 5 ≤ a → a + objectCount n ≤ 6 + 51 * n → Within (over (λ m. withoutBit m flag) v a (objectCount n)) n
+      unflag : (v : List ℕ) (a : ℕ) → Within v n → activeAt ≤ a → a + objectCount n ≤ coloursFrom n → Within (over (λ m. withoutBit m flag) v a (objectCount n)) n
       unflag v a g p q = over-within (λ m. withoutBit m flag) v n a (objectCount n) g (omega arith) (λ i x y z f. without-fits n i x flag (omega arith) (omega arith) f)
 
   first-le : (v : List ℕ) (o : ℕ) → firstColour v n o ≤ 2
@@ -325,7 +325,7 @@ clear-within w n some e c a b = record {
       (λ g. let z = c i (omega arith) in choose i 3 (λ q. phase (omega arith) (omega arith))
       (λ q. choose i 4 (λ j. pass-page (omega arith) (omega arith))
       (λ j. choose i 5 (λ k. steps (omega arith) (omega arith))
-      (λ k. choose i (6 + 19 * n) (λ m. mask k m (omega arith))
-      (λ m. choose i (6 + 51 * n) (λ p. flagged m p (omega arith))
+      (λ k. choose i (prunedFrom n) (λ m. mask k m (omega arith))
+      (λ m. choose i (coloursFrom n) (λ p. flagged m p (omega arith))
       (λ p. colour p (omega arith))))))));
 }

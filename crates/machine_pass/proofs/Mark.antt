@@ -11,7 +11,7 @@ use borrow.Author.Tests.{ltb-true, eqb-true, eqb-false, eq-eqb, ne-eqb, le-leb, 
 use Rattle.words.specs.Tests.{if, by-bool}
 use Rattle.pages.specs.Geometry.{isObject, isRef, isRefAt, objectCount, slotWords}
 use Rattle.pages.specs.Objects.{occupied, wordOf}
-use Rattle.areas.specs.Layout.{passPageAt, stepsAt, colourAt, tableWords, stepsTop}
+use Rattle.areas.specs.Layout.{passPageAt, stepsAt, colourAt, tableWords, stepsTop, coloursFrom, activeAt}
 use Rattle.areas.specs.Tables.{at, isWhite, mayMark, coloured, greyed, withPass, stepsNext}
 use Rattle.calls.specs.Pass.{targetsGreyed, scanned}
 use Rattle.collector.specs.Bits.{_and_, _or_, anyb, false-and, true-and, and-false, and-true}
@@ -81,7 +81,7 @@ module _ (n : ℕ) (w : List ℕ) (len : tableWords n ≤ length w) where
   unfolding greyed
   length-greyed y = by-bool (mayMark w n y && isWhite w n y) (λ e. rw e (length-set w (colourAt n y) 1)) (λ e. rw e refl)
 
-  pub greyed-low : (y i : ℕ) → i < 6 + 51 * n → at (greyed w n y) i ≡ at w i
+  pub greyed-low : (y i : ℕ) → i < coloursFrom n → at (greyed w n y) i ≡ at w i
   unfolding greyed
   greyed-low y i l = by-bool (mayMark w n y && isWhite w n y)
       (λ e. rw e (getD-set-other w (colourAt n y) i 1 0 (λ z. omega arith))) (λ e. rw e refl)
@@ -124,7 +124,7 @@ module _ (n : ℕ) (copies : List ℕ) (o : ℕ) (refs : (f : ℕ) → f < 4 →
       (λ e. rw e (length-greyed n (targetsGreyed copies w n o k) (room-kept (tableWords n) (length-targets w len k) len) (wordOf copies o k) ∙ length-targets w len k))
       (λ e. rw e (length-targets w len k))
 
-  pub targets-low : (w : List ℕ) → tableWords n ≤ length w → (k i : ℕ) → i < 6 + 51 * n → at (targetsGreyed copies w n o k) i ≡ at w i
+  pub targets-low : (w : List ℕ) → tableWords n ≤ length w → (k i : ℕ) → i < coloursFrom n → at (targetsGreyed copies w n o k) i ≡ at w i
   unfolding targetsGreyed
   targets-low w len zero i l = refl
   targets-low w len (suc k) i l = by-bool (isRef copies o k)
@@ -171,7 +171,7 @@ module _ (n : ℕ) (copies w : List ℕ) (o : ℕ) (refs : (f : ℕ) → f < 4 �
   unfolding targets
   length-kept = by-bool (occupied copies o) (λ e. rw e (room-kept (tableWords n) (length-targets n copies o refs w len 8) len)) (λ e. rw e len)
 
-  low-kept : (i : ℕ) → i < 6 + 51 * n → at targets i ≡ at w i
+  low-kept : (i : ℕ) → i < coloursFrom n → at targets i ≡ at w i
   unfolding targets
   low-kept i l = by-bool (occupied copies o) (λ e. rw e (targets-low n copies o refs w len 8 i l)) (λ e. rw e refl)
 
@@ -185,7 +185,7 @@ module _ (n : ℕ) (copies w : List ℕ) (o : ℕ) (refs : (f : ℕ) → f < 4 �
   unfolding scanned targets
   length-scanned = room-kept (tableWords n) (length-set targets (colourAt n o) 2) length-kept
 
-  pub scanned-low : (i : ℕ) → i < 6 + 51 * n → at (scanned copies w n o) i ≡ at w i
+  pub scanned-low : (i : ℕ) → i < coloursFrom n → at (scanned copies w n o) i ≡ at w i
   unfolding scanned targets
   scanned-low i l = getD-set-other targets (colourAt n o) i 2 0 (λ z. omega arith) ∙ low-kept i l
 
@@ -205,7 +205,7 @@ module _ (n : ℕ) (copies w : List ℕ) (o : ℕ) (refs : (f : ℕ) → f < 4 �
   long : 5 ≤ length (scanned copies w n o)
   long = let e = length-scanned n copies w o refs len ok in omega arith
 
-  scan-low : (i : ℕ) → 5 ≤ i → i < 6 + 51 * n → at scan i ≡ at w i
+  scan-low : (i : ℕ) → activeAt ≤ i → i < coloursFrom n → at scan i ≡ at w i
   scan-low i l u = pass-other (scanned copies w n o) 1 (at w passPageAt) (stepsNext w n) long i (λ z. omega arith) (λ z. omega arith) (λ z. omega arith)
       ∙ scanned-low n copies w o refs len ok i u
 
@@ -238,7 +238,7 @@ module _ (n : ℕ) (w : List ℕ) (phase page steps : ℕ) (len : tableWords n �
   abbrev pub moved : List ℕ
   moved = withPass w phase page steps
 
-  moved-other : (i : ℕ) → 5 ≤ i → at moved i ≡ at w i
+  moved-other : (i : ℕ) → activeAt ≤ i → at moved i ≡ at w i
   moved-other i l = pass-other w phase page steps (omega arith) i (λ z. omega arith) (λ z. omega arith) (λ z. omega arith)
 
   pub moved-locks : locksOf moved n ≡ locksOf w n

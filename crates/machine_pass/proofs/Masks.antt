@@ -1,5 +1,5 @@
 -- Words that are 0 or not, as tables of bits read them. n is the number of pages. Assumes nothing.
-use Prim.Native.Nat.{ℕ, _^_, _<_}
+use Prim.Native.Nat.{ℕ, _^_, _<_, _+_}
 use native.Mathlib.Omega.{arith}
 use mathlib.Core.Path.{_≡_, refl, sym, _∙_}
 use mathlib.Core.Bool.{true, not}
@@ -27,7 +27,7 @@ zero-anyb k m h = by-bool (anyb k (bit m))
 pub unflagged-bit : (m t : ℕ) → t < txnCount → bit (withoutBit m flag) t ≡ bit m t
 unflagged-bit m t l = without-other m flag t (λ z. omega arith)
 
-pub unflagged-anyb : (m : ℕ) → m < 131072 → not (eqb (withoutBit m flag) 0) ≡ anyb 16 (bit m)
+pub unflagged-anyb : (m : ℕ) → m < 2 ^ (txnCount + 1) → not (eqb (withoutBit m flag) 0) ≡ anyb 16 (bit m)
 unflagged-anyb m h = zero-anyb 17 (withoutBit m flag) (let k = without-le m flag in omega arith) ∙ top
   where
     top : anyb 17 (bit (withoutBit m flag)) ≡ anyb 16 (bit m)
@@ -59,7 +59,7 @@ module _ (w : List ℕ) (n : ℕ) (place : ℕ → ℕ) (x : ℕ) (ok : isObject
       (λ d. d)))
 
   -- an entry, flagged or not
-  pub carried-is : at w (place x) < 131072 → carried (objectBit w n place) (flagBit w n place) x ≡ not (eqb (at w (place x)) 0)
+  pub carried-is : at w (place x) < 2 ^ (txnCount + 1) → carried (objectBit w n place) (flagBit w n place) x ≡ not (eqb (at w (place x)) 0)
   carried-is h = by-bool (anyb 17 (bit (at w (place x))))
       (λ e. rw (zero-anyb 17 (at w (place x)) h, e) (anyb-elim 17 (bit (at w (place x))) e (λ j l b. elim (ℕ-discrete j 16) [
         | yes q ↦ or-r _ _ (flag-is ∙ (rw q at b))

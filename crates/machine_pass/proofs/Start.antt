@@ -1,5 +1,5 @@
 -- The start of a pass, read as the machine's. n is the number of pages. Assumes nothing.
-use Prim.Native.Nat.{ℕ, _+_, _*_, _-_, _≤_, _<_}
+use Prim.Native.Nat.{ℕ, _+_, _*_, _-_, _≤_, _<_, _^_}
 use native.Mathlib.Omega.{arith}
 use mathlib.Core.Path.{_≡_, refl, ap, _∙_}
 use mathlib.Core.Bool.{Bool, true, false, cond, _||_}
@@ -11,7 +11,7 @@ use Rattle.words.specs.Tests.{if, by-bool, clash}
 use Rattle.words.specs.Bits.{withoutBit, without-same}
 use Rattle.words.specs.Spans.{over, fill, length-over, length-fill, over-inside, over-outside, fill-inside, fill-outside, room-kept}
 use Rattle.pages.specs.Geometry.{isObject, root, objectCount}
-use Rattle.areas.specs.Layout.{prunedAt, createdAt, colourAt, knownAt, unflushedAt, tableWords}
+use Rattle.areas.specs.Layout.{prunedAt, createdAt, colourAt, knownAt, unflushedAt, tableWords, coloursFrom, prunedFrom}
 use Rattle.areas.specs.Tables.{at, has, flag}
 use Rattle.calls.specs.Pass.{unflagged, firstColour, passStarted}
 use Rattle.collector.specs.Bits.{_and_, _or_, anyb, anyb-elim, and-l, and-r, false-and, true-and}
@@ -38,7 +38,7 @@ module _ (n : ℕ) (w : List ℕ) (len : tableWords n ≤ length w) (low : 1 ≤
   length-unflagged = room-kept (tableWords n) (length-over (λ m. withoutBit m flag) prunes (createdAt n 1) (objectCount n)) length-prunes
 
   -- words outside the PRT and the COT
-  unflagged-outside : (i : ℕ) → (6 + 19 * n ≤ i → i < 6 + 51 * n → ⊥) → at (unflagged w n) i ≡ at w i
+  unflagged-outside : (i : ℕ) → (prunedFrom n ≤ i → i < coloursFrom n → ⊥) → at (unflagged w n) i ≡ at w i
   unfolding unflagged prunes
   unflagged-outside i h = over-outside (λ m. withoutBit m flag) prunes (createdAt n 1) (objectCount n) i 0 (λ k l z. h (omega arith) (omega arith))
       ∙ over-outside (λ m. withoutBit m flag) w (prunedAt n 1) (objectCount n) i 0 (λ k l z. h (omega arith) (omega arith))
@@ -62,7 +62,7 @@ module _ (n : ℕ) (w : List ℕ) (len : tableWords n ≤ length w) (low : 1 ≤
   unfolding coloursSet
   length-colours = room-kept (tableWords n) (length-fill (λ k. firstColour (unflagged w n) n (k + 1)) (unflagged w n) (colourAt n 1) (objectCount n)) length-unflagged
 
-  colours-low : (i : ℕ) → i < 6 + 51 * n → at coloursSet i ≡ at (unflagged w n) i
+  colours-low : (i : ℕ) → i < coloursFrom n → at coloursSet i ≡ at (unflagged w n) i
   unfolding coloursSet
   colours-low i l = fill-outside (λ k. firstColour (unflagged w n) n (k + 1)) (unflagged w n) (colourAt n 1) (objectCount n) i 0 (λ k h z. omega arith)
 
@@ -112,7 +112,7 @@ module _ (n : ℕ) (w : List ℕ) (len : tableWords n ≤ length w) (low : 1 ≤
     dirty = dirty-kept coloursSet w n (λ k l u. colours-low k (omega arith) ∙ unflagged-outside k (λ a b. omega arith)) i;
   }
 
-  module _ (flags : (x : ℕ) → 1 ≤ x → x ≤ objectCount n → at w (prunedAt n x) < 131072) where
+  module _ (flags : (x : ℕ) → 1 ≤ x → x ≤ objectCount n → at w (prunedAt n x) < 2 ^ (txnCount + 1)) where
     none-beyond : (x : ℕ) → isObject n x ≡ false → some (objectBit w n (prunedAt n)) x ≡ false
     unfolding objectBit txns
     none-beyond x o = by-bool (anyb 16 (λ t. ltb t txnCount and (isObject n x and has w (prunedAt n x) t)))

@@ -1,5 +1,5 @@
 -- A sweeping step, read as the machine's: the slots it frees are the machine's dead objects. n is the number of pages. Assumes nothing.
-use Prim.Native.Nat.{ℕ, zero, suc, _+_, _*_, _≤_, _<_}
+use Prim.Native.Nat.{ℕ, zero, suc, _+_, _*_, _≤_, _<_, _^_}
 use native.Mathlib.Omega.{arith}
 use native.Mathlib.Numerals.{add-one}
 use mathlib.Core.Path.{_≡_, refl, sym, _∙_}
@@ -28,6 +28,7 @@ use Rattle.machine_view.proofs.Effects.{released-view}
 use Rattle.machine_calls.specs.Tables.{objectBit, flagBit, colourOf, colourAtObject, phaseOf, locksOf, tablesOf, passOf}
 use Rattle.machine_pass.proofs.Masks.{carried-is}
 use Rattle.machine_pass.proofs.Mark.{moved-locks, moved-tables, moved-pass, steps-suc}
+use Rattle.records.specs.Records.{txnCount}
 
 if-cond : (b : Bool) (v u : Obj) → if b v u ≡ cond b v u
 if-cond true v u = refl
@@ -42,7 +43,7 @@ white-is zero = refl
 white-is (suc zero) = refl
 white-is (suc (suc c)) = sym (ne-eqb (suc (suc c)) 0 (omega arith))
 
-module _ (n : ℕ) (copies w : List ℕ) (created : (x : ℕ) → 1 ≤ x → x ≤ objectCount n → at w (createdAt n x) < 131072) where
+module _ (n : ℕ) (copies w : List ℕ) (created : (x : ℕ) → 1 ≤ x → x ≤ objectCount n → at w (createdAt n x) < 2 ^ (txnCount + 1)) where
   -- the machine's test of an object, without its page
   abbrev pub doomed : ℕ → Bool
   doomed x = view copies x .occ and M.isWhite (colourAtObject w n x) and not (carried (objectBit w n (createdAt n)) (flagBit w n (createdAt n)) x)

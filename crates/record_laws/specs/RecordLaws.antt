@@ -1,6 +1,6 @@
 -- Laws of log records: one written and read back, what a sound one says, and what depends on the first records of a log only.
 -- Assumes nothing.
-use Prim.Native.Nat.{ℕ, zero, suc, _+_, _*_, _<_, _≤_}
+use Prim.Native.Nat.{ℕ, zero, suc, _+_, _*_, _<_, _≤_, _^_}
 use mathlib.Core.Path.{_≡_, refl, sym, ap, _∙_}
 use mathlib.Core.Bool.{Bool, true, false, not, _&&_, _||_}
 use mathlib.Core.List.{List, [], _∷_}
@@ -14,7 +14,7 @@ use native.Mathlib.Omega.{arith}
 use borrow.Author.Tests.{ltb-true, leb-true, eqb-true, eqb-false, lt-ltb, le-leb, eq-eqb, ne-eqb, not-true, lt-leb}
 use Rattle.words.specs.Tests.{if, all, any, by-bool, clash, if-t, if-f, and-t, and-f, and-false, and-l, and-r, or-cases, or-false-l, or-false-r, all-at, all-end, all-next, all-stop, all-intro, any-next}
 use Rattle.words.specs.Bits.{bit}
-use Rattle.pages.specs.Geometry.{isObject, objectCount, slotWords}
+use Rattle.pages.specs.Geometry.{isObject, objectCount, slotWords, slotCount, mapTop}
 use Rattle.page_laws.specs.Places.{object-range}
 use Rattle.records.specs.declared.Record.{Record}
 use Rattle.records.specs.Records.{made, recordAt, recorded, isBegin, isChange, isSweep, recordWords, txnCount}
@@ -180,7 +180,7 @@ pub record SoundRecord (n : ℕ) (r : Record) : Type 0 where
   pub create : r .kind ≡ 2 → (1 < r .object) × (r .object ≤ objectCount n)
   pub write : r .kind ≡ 3 → (1 ≤ r .object) × (r .object ≤ objectCount n)
   pub uncreate : r .kind ≡ 6 → (1 < r .object) × (r .object ≤ objectCount n)
-  pub sweep : r .kind ≡ 7 → (r .object < n) × (r .new < 65536)
+  pub sweep : r .kind ≡ 7 → (r .object < n) × (r .new < 2 ^ slotCount)
   pub sweep-txn : r .kind ≡ 7 → r .txn ≡ 0
   pub sweep-root : r .kind ≡ 7 → r .object ≡ 0 → bit (r .new) 0 ≡ false
   pub old-reference : r .kind ≡ 3 → r .field < 4 → r .old ≤ objectCount n
@@ -237,14 +237,14 @@ sound-record n r h = record {
     word : (w : ℕ) → w < 6 → wordSound n r w ≡ true
     word w k = all-at (wordSound n r) 6 w h k
 
-    map : r .kind ≡ 7 → leb (r .new) 65535 && not (eqb (r .object) 0 && bit (r .new) 0) ≡ true
+    map : r .kind ≡ 7 → leb (r .new) mapTop && not (eqb (r .object) 0 && bit (r .new) 0) ≡ true
     map e = rw e at (word 5 (omega arith))
 
-    swept-map : r .kind ≡ 7 → r .new < 65536
-    swept-map e = let k = leb-true (r .new) 65535 (and-l (leb (r .new) 65535) (not (eqb (r .object) 0 && bit (r .new) 0)) (map e)) in omega arith
+    swept-map : r .kind ≡ 7 → r .new < 2 ^ slotCount
+    swept-map e = let k = leb-true (r .new) mapTop (and-l (leb (r .new) mapTop) (not (eqb (r .object) 0 && bit (r .new) 0)) (map e)) in omega arith
 
     swept-root : r .kind ≡ 7 → r .object ≡ 0 → bit (r .new) 0 ≡ false
-    swept-root e z = ap (λ (b : Bool). b && bit (r .new) 0) (sym (eq-eqb (r .object) 0 z)) ∙ not-true (eqb (r .object) 0 && bit (r .new) 0) (and-r (leb (r .new) 65535) (not (eqb (r .object) 0 && bit (r .new) 0)) (map e))
+    swept-root e z = ap (λ (b : Bool). b && bit (r .new) 0) (sym (eq-eqb (r .object) 0 z)) ∙ not-true (eqb (r .object) 0 && bit (r .new) 0) (and-r (leb (r .new) mapTop) (not (eqb (r .object) 0 && bit (r .new) 0)) (map e))
 
     unused-object : namesPage r ≡ false → r .object ≡ 0
     unused-object e = eqb-true (r .object) 0 (rw (or-false-l (namesObject r) (isSweep r) e, or-false-r (namesObject r) (isSweep r) e) at (word 2 (omega arith)))

@@ -1,5 +1,5 @@
 -- Records that calls append are sound: the bounds that each kind needs. n is the number of pages. Assumes nothing.
-use Prim.Native.Nat.{ℕ, _*_, _<_, _≤_}
+use Prim.Native.Nat.{ℕ, _*_, _<_, _≤_, _^_}
 use mathlib.Core.Path.{_≡_}
 use mathlib.Core.Bool.{true, false, _&&_, _||_}
 use lib.Dec.{eqb, leb}
@@ -9,7 +9,7 @@ use borrow.Author.Tests.{lt-ltb, le-leb, ne-eqb, eqb-true}
 use mathlib.Core.Logic.{inl, inr}
 use Rattle.words.specs.Tests.{all, by-bool, or-cases, or-l, or-r}
 use Rattle.words.specs.Bits.{bit}
-use Rattle.pages.specs.Geometry.{pageOf, slotOf, root, objectCount, slotWords}
+use Rattle.pages.specs.Geometry.{pageOf, slotOf, root, objectCount, slotWords, slotCount, mapTop}
 use Rattle.records.specs.declared.Record.{Record}
 use Rattle.records.specs.Records.{beginOf, createOf, setOf, commitOf, abortedOf, uncreateOf, sweepOf, txnCount}
 use Rattle.records.specs.Soundness.{wordSound, recordSound}
@@ -46,9 +46,9 @@ module _ (n t : ℕ) (h : t < txnCount) where
     unfolding recordSound wordSound all
     set-sound f a b l w old new = rw (lt-ltb t txnCount h, le-leb 1 o l, le-leb o (objectCount n) high, lt-ltb f slotWords w, reference n f a old, reference n f b new)
 
-pub sweep-sound : (n p m : ℕ) → p < n → m < 65536 → eqb p (pageOf root) && bit m (slotOf root) ≡ false → recordSound n (sweepOf p m) ≡ true
+pub sweep-sound : (n p m : ℕ) → p < n → m < 2 ^ slotCount → eqb p (pageOf root) && bit m (slotOf root) ≡ false → recordSound n (sweepOf p m) ≡ true
 unfolding recordSound wordSound all
-sweep-sound n p m page map spared = rw (lt-ltb p n page, le-leb m 65535 (omega arith), spared)
+sweep-sound n p m page map spared = rw (lt-ltb p n page, le-leb m mapTop (omega arith), spared)
 
 -- the record that undoes a sound create or set
 pub undoing-sound : (n : ℕ) (r : Record) → recordSound n r ≡ true → eqb (r .kind) 2 || eqb (r .kind) 3 ≡ true → recordSound n (undoing r) ≡ true

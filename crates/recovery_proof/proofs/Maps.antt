@@ -10,7 +10,7 @@ use lib.Seq.{ext-getD}
 use lib.Dec.{eqb}
 use Rattle.words.specs.Tests.{if, by-bool}
 use Rattle.words.specs.Bits.{bit, withBit, withoutBit, with-lt, without-le, bits-same}
-use Rattle.pages.specs.Geometry.{pageAt, slotAt, objectAt, pageOf, slotOf, root, pageWords, objectCount, slotCount, slotWords}
+use Rattle.pages.specs.Geometry.{pageAt, slotAt, objectAt, pageOf, slotOf, root, pageWords, objectCount, slotCount, slotWords, mapTop}
 use Rattle.pages.specs.Objects.{mapAt, taken, slotWord, cleared, takenSlot, freedSlot, releasedIn, formattedPages}
 use Rattle.pages.specs.Soundness.{areaSound}
 use Rattle.records.specs.declared.Record.{Record}
@@ -33,14 +33,14 @@ use Rattle.recovery_proof.proofs.Masks.{maskBefore}
 
 -- no map above 65535
 abbrev pub Small : ℕ → List ℕ → Type 0
-Small n a = (p : ℕ) → p < n → mapAt a p ≤ 65535
+Small n a = (p : ℕ) → p < n → mapAt a p ≤ mapTop
 
 pub small-sound : (n : ℕ) (a : List ℕ) → areaSound a n ≡ true → Small n a
 small-sound n a h p l = let e = sound-facts a n h .map p l in omega arith
 
 -- one slot, with another map
 module _ (n : ℕ) (a : List ℕ) (len : length a ≡ pageWords * n) (p s : ℕ) (hp : p < n) (hs : s < slotCount) (h : Small n a) where
-  small-remade : (v : ℕ) → v ≤ 65535 → Small n (cleared (set a (pageAt p) v) p s)
+  small-remade : (v : ℕ) → v ≤ mapTop → Small n (cleared (set a (pageAt p) v) p s)
   small-remade v b q l = rw (map-put a p s v hs (omega arith) q) (by-bool (eqb q p) (λ e. rw e b) (λ e. rw e (h q l)))
 
   pub small-taken : Small n (takenSlot a p s)

@@ -40,9 +40,9 @@ unwritten r x h = elim (kind-of r) [
     apart : eqb (pageOf (r .object)) (pageOf x) ≡ false → eqb (r .object) x ≡ false
     apart e = by-bool (eqb (r .object) x) (λ z. clash (eq-eqb (pageOf (r .object)) (pageOf x) (rw (eqb-true (r .object) x z) refl)) e) (λ z. z)
 
-length-last : (g : List ℕ) (c : ℕ) → length (lastNaming g c) ≡ 256
+length-last : (g : List ℕ) (c : ℕ) → length (lastNaming g c) ≡ maxPages
 unfolding lastNaming
-length-last g zero = length-replicate {A = ℕ} 256 0
+length-last g zero = length-replicate {A = ℕ} maxPages 0
 length-last g (suc i) = by-bool (namesPage (recordAt g i))
     (λ e. rw e (length-set (lastNaming g i) (pageNamed (recordAt g i)) (i + 1) ∙ length-last g i))
     (λ e. rw e (length-last g i))

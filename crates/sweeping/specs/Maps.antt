@@ -9,6 +9,7 @@ use native.Mathlib.Nat.{min-le-left}
 use native.Mathlib.Omega.{arith}
 use Rattle.words.specs.Tests.{if, count, and-cong}
 use Rattle.words.specs.Bits.{bit, mapOf, slotsSet, bit-low, bit-next, bits-same, map-lt, map-bit, map-next}
+use Rattle.pages.specs.Geometry.{slotCount}
 
 -- the bits of two words' bitwise and
 digits : (x y : ℕ) → x < 2 → y < 2 → eqb (min x y) 1 ≡ (eqb x 1 && eqb y 1)
@@ -43,8 +44,8 @@ module _ (f : ℕ → Bool) (s x y : ℕ) (b : Bool) (h : x ≡ mapOf f s) (e : 
   pub slot-next : x + y ≡ mapOf f (s + 1)
   slot-next = rw (h, e, t) (map-next f s)
 
-  pub slot-fits : s < 16 → x + y < 65536
-  slot-fits l = let e = slot-next in let m = map-lt f (s + 1) in let p : 2 ^ (s + 1) ≤ 65536 = pow-mono {i = s + 1} {j = 16} (omega arith) in omega arith
+  pub slot-fits : s < slotCount → x + y < 2 ^ slotCount
+  slot-fits l = let e = slot-next in let m = map-lt f (s + 1) in let p : 2 ^ (s + 1) ≤ 2 ^ slotCount = pow-mono {i = s + 1} {j = slotCount} (omega arith) in omega arith
 
 pub map-end : (f : ℕ → Bool) (s k x : ℕ) → x ≡ mapOf f s → s ≡ k → x ≡ mapOf f k
 map-end f s k x h e = h ∙ ap (mapOf f) e
