@@ -9,12 +9,12 @@ use Rattle.texts.specs.Fields.{fieldsOf}
 use Rattle.texts.specs.Parts.{fieldLength, following}
 use Rattle.texts.specs.Walk.{at-byte}
 use Rattle.texts.specs.FieldLaws.{fields-part, part-rest}
-use Rattle.decimals.specs.Numbers.{numberOf}
+use Rattle.decimals.specs.Numbers.{numberIn}
 use Rattle.bench_commands.specs.Commands.{andNumber, numbersFrom, callOf, callOfFields, commandOf}
 use Rattle.bench_commands.specs.declared.Numbers.{Numbers}
 use Rattle.bench_commands.specs.declared.Numbers.the-variants.{Zero}
 
-numbers-field : (ns : Numbers) (f : List ℕ) (fs : List (List ℕ)) → numbersFrom ns (f ∷ fs) ≡ numbersFrom (andNumber ns (numberOf f)) fs
+numbers-field : (ns : Numbers) (f : List ℕ) (fs : List (List ℕ)) → numbersFrom ns (f ∷ fs) ≡ numbersFrom (andNumber ns (numberIn f)) fs
 unfolding numbersFrom
 numbers-field ns f fs = refl
 
@@ -25,7 +25,7 @@ numbers-none ns = refl
 -- past a comma before a: the field of k bytes from there is read, and those that follow are left
 module _ (s : List ℕ) (ns : Numbers) (a k : ℕ) where
   abbrev afterField : ℕ → List ℕ → Numbers
-  afterField n l = numbersFrom (andNumber ns (numberOf (take n (drop a s)))) (following l)
+  afterField n l = numbersFrom (andNumber ns (numberIn (take n (drop a s)))) (following l)
 
   fields-more : k ≡ fieldLength (take (length s - a) (drop a s)) → numbersFrom ns (fieldsOf (drop a s)) ≡ afterField (a + k - a) (drop (a + k) s)
   fields-more e =

@@ -2,7 +2,7 @@
 use Prim.Native.Nat.{ℕ}
 use mathlib.Core.List.{List, [], _∷_}
 use Rattle.texts.specs.Fields.{fieldsOf}
-use Rattle.decimals.specs.Numbers.{numberOf}
+use Rattle.decimals.specs.Numbers.{numberIn}
 use Rattle.decimals.specs.declared.Number.{Number}
 use Rattle.decimals.specs.declared.Number.the-variants.{Is, Not}
 use Rattle.bench_names.specs.Names.{callAlone, callOne, callTwo, callFour}
@@ -24,7 +24,7 @@ andNumber Bad (Is a) = Bad
 -- "with t, object, field, word": the numbers so far, and those of the fields that follow
 unfoldable pub numbersFrom : Numbers → List (List ℕ) → Numbers
 numbersFrom ns [] = ns
-numbersFrom ns (f ∷ fs) = numbersFrom (andNumber ns (numberOf f)) fs
+numbersFrom ns (f ∷ fs) = numbersFrom (andNumber ns (numberIn f)) fs
 
 -- "The calls are ..": the call of a name with these numbers; no call has three
 abbrev pub callOf : List ℕ → Numbers → Command

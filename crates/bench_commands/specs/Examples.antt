@@ -5,7 +5,7 @@ use mathlib.Core.List.{List, [], _∷_, map}
 use Rattle.texts.specs.Text.{bytes}
 use Rattle.texts.specs.Same.{same}
 use Rattle.texts.specs.Fields.{fieldsOf}
-use Rattle.decimals.specs.Numbers.{digitsFrom, numberOf}
+use Rattle.decimals.specs.Numbers.{digitsFrom, numberIn}
 use Rattle.bench_names.specs.Names.{callAlone, callOne, callTwo, callFour}
 use Rattle.bench_names.specs.declared.Command.{Command}
 use Rattle.bench_names.specs.declared.Command.the-variants.{Transaction, Lock, Object, Stability, Collection, Reopening, NoCall}
@@ -83,5 +83,5 @@ table =
     ∷ []
 
 pub commands : map (λ (r : Row). commandOf (bytes (r .0))) table ≡ map (λ (r : Row). r .1) table
-unfolding table digitsFrom numberOf same fieldsOf numbersFrom callAlone callOne callTwo callFour commandOf
+unfolding table digitsFrom numberIn same fieldsOf numbersFrom callAlone callOne callTwo callFour commandOf
 commands = refl

@@ -1,4 +1,4 @@
--- Laws of `numberOf`.
+-- Laws of `numberIn`.
 use Prim.Native.Nat.{ℕ, _<_, _≤_}
 use mathlib.Core.Path.{_≡_, refl}
 use mathlib.Core.Bool.{true, false, and-false}
@@ -7,7 +7,7 @@ use lib.Dec.{leb}
 use lib.ListN.{length}
 use borrow.Author.Tests.{le-leb, lt-leb, eq-eqb, ne-eqb}
 use Rattle.decimals.specs.Digits.{digitZero, digitNine, largest}
-use Rattle.decimals.specs.Numbers.{isDigit, andDigit, digitsFrom, zeroLeads, numberOf}
+use Rattle.decimals.specs.Numbers.{isDigit, andDigit, digitsFrom, zeroLeads, numberIn}
 use Rattle.decimals.specs.declared.Number.the-variants.{Is, Not}
 
 pub digits-end : (n : ℕ) → digitsFrom n [] ≡ Is n
@@ -32,14 +32,14 @@ module _ (n b : ℕ) (bs : List ℕ) where
   digits-more h k l = rw (le-leb digitZero b h, le-leb b digitNine k, le-leb (andDigit n b) largest l)
 
 module _ (s : List ℕ) where
-  pub number-empty : length s ≡ 0 → Not ≡ numberOf s
-  unfolding numberOf
+  pub number-empty : length s ≡ 0 → Not ≡ numberIn s
+  unfolding numberIn
   number-empty h = rw (eq-eqb (length s) 0 h)
 
-  pub number-leads : (length s ≡ 0 → ⊥) → zeroLeads s ≡ true → Not ≡ numberOf s
-  unfolding numberOf
+  pub number-leads : (length s ≡ 0 → ⊥) → zeroLeads s ≡ true → Not ≡ numberIn s
+  unfolding numberIn
   number-leads n h = rw (ne-eqb (length s) 0 n, h)
 
-  pub number-starts : (length s ≡ 0 → ⊥) → zeroLeads s ≡ false → digitsFrom 0 s ≡ numberOf s
-  unfolding numberOf
+  pub number-starts : (length s ≡ 0 → ⊥) → zeroLeads s ≡ false → digitsFrom 0 s ≡ numberIn s
+  unfolding numberIn
   number-starts n h = rw (ne-eqb (length s) 0 n, h)

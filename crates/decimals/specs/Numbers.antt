@@ -26,5 +26,5 @@ abbrev pub zeroLeads : List ℕ → Bool
 zeroLeads s = eqb (getD s 0 0) digitZero && ltb 1 (length s)
 
 -- "Numbers have no leading zeros and 32 bits.": the number that a field's bytes write, if they write one
-unfoldable pub numberOf : List ℕ → Number
-numberOf s = if (eqb (length s) 0 || zeroLeads s) Not (digitsFrom 0 s)
+unfoldable pub numberIn : List ℕ → Number
+numberIn s = if (eqb (length s) 0 || zeroLeads s) Not (digitsFrom 0 s)

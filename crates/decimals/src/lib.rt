@@ -4,7 +4,7 @@ ghost use mathlib.Core.Path.{_≡_};
 ghost use lib.ListN.{length};
 ghost use lib.Seq.{sets};
 ghost use Rattle.decimals.specs.Digits.{mostDigits};
-ghost use Rattle.decimals.specs.Numbers.{numberOf};
+ghost use Rattle.decimals.specs.Numbers.{numberIn};
 ghost use Rattle.decimals.specs.Decimal.{decimal};
 
 // Numbers are decimal.
@@ -26,7 +26,7 @@ pub enum Number {
 
 // The number that a text writes.
 pub fn number_of(s: &[u8]) -> Number
-    ensures { λ r. ⌜ r ≡ numberOf (now (s .entry)) ⌝ }
+    ensures { λ r. ⌜ r ≡ numberIn (now (s .entry)) ⌝ }
 {
     if s.len() == 0 {
         return Number::Not;

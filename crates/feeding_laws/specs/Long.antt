@@ -15,7 +15,7 @@ use Rattle.texts.specs.SameLaws.{same-lengths}
 use Rattle.texts.specs.Lines.{onto}
 use Rattle.texts.specs.Fields.{fieldsOf}
 use Rattle.decimals.specs.Digits.{base, digitZero, digitNine, largest}
-use Rattle.decimals.specs.Numbers.{isDigit, andDigit, digitsFrom, numberOf}
+use Rattle.decimals.specs.Numbers.{isDigit, andDigit, digitsFrom, numberIn}
 use Rattle.decimals.specs.declared.Number.{Number}
 use Rattle.decimals.specs.declared.Number.the-variants.{Is, Not}
 use Rattle.bench_names.specs.Names.{begin, commit, abort, lockr, lockw, flush, read, create, set, store, force, empty, pass, step, reopen, restep}
@@ -132,8 +132,8 @@ short-by false false w false b m bs hu hw hk e = absurd (first-long b m bs (hu r
 short-by false true true false b m bs hu hw hk e = absurd (not-is e)
 short-by false true false false b m bs hu hw hk e = omega (arith, hw refl)
 
-number-short : (f : List ℕ) (m : ℕ) → numberOf f ≡ Is m → length f ≤ digits
-unfolding numberOf
+number-short : (f : List ℕ) (m : ℕ) → numberIn f ≡ Is m → length f ≤ digits
+unfolding numberIn
 number-short [] m e = omega arith
 number-short (b ∷ bs) m e =
     short-by (eqb (suc (length bs)) 0) (eqb b digitZero) (ltb 1 (suc (length bs))) (leb (length bs) 9) b m bs
@@ -148,7 +148,7 @@ Within (Three a b c) n = n ≤ 3 * field
 Within (Four a b c d) n = n ≤ 4 * field
 Within Bad n = Unit {0}
 
-within-number : (ns : Numbers) (n : ℕ) (f : List ℕ) (x : Number) → numberOf f ≡ x → Within ns n → Within (andNumber ns x) (n + (length f + 1))
+within-number : (ns : Numbers) (n : ℕ) (f : List ℕ) (x : Number) → numberIn f ≡ x → Within ns n → Within (andNumber ns x) (n + (length f + 1))
 within-number ns n f Not e h = tt
 within-number Zero n f (Is a) e h = omega (arith, number-short f a e)
 within-number (One a) n f (Is b) e h = omega (arith, number-short f b e)
@@ -161,8 +161,8 @@ within-numbers : (ns : Numbers) (n : ℕ) (fs : List (List ℕ)) → Within ns n
 unfolding total numbersFrom
 within-numbers ns n [] h = subst (Within ns) (sym (add-zero n)) h
 within-numbers ns n (f ∷ fs) h =
-    subst (Within (numbersFrom (andNumber ns (numberOf f)) fs)) (add-assoc n (length f + 1) (total fs))
-    (within-numbers (andNumber ns (numberOf f)) (n + (length f + 1)) fs (within-number ns n f (numberOf f) refl h))
+    subst (Within (numbersFrom (andNumber ns (numberIn f)) fs)) (add-assoc n (length f + 1) (total fs))
+    (within-numbers (andNumber ns (numberIn f)) (n + (length f + 1)) fs (within-number ns n f (numberIn f) refl h))
 
 -- a name longer than every name
 module _ (name : List ℕ) (h : longest < length name) where

@@ -41,7 +41,7 @@ use Rattle.calls.specs.Transactions.{beginTests, begun, callBegin, endedTables,
 use Rattle.texts.specs.Same.{same as same-texts}
 use Rattle.texts.specs.Lines.{linesOf}
 use Rattle.texts.specs.Fields.{fieldsOf}
-use Rattle.decimals.specs.Numbers.{digitsFrom, numberOf}
+use Rattle.decimals.specs.Numbers.{digitsFrom, numberIn}
 use Rattle.decimals.specs.Decimal.{digitsIn, decimal}
 use Rattle.bench_names.specs.Names.{callAlone, callOne, callTwo, callFour}
 use Rattle.bench_commands.specs.Commands.{numbersFrom, commandOf}
@@ -115,5 +115,5 @@ table =
     ∷ []
 
 pub table-right : allRight table ≡ true
-unfolding allRight right table sameWords sameAreas refusedBy refusedAfter withBit withoutBit mapOf slotsSet over fill copied upTo same-spans all any count sum lowest isRefAt cleared takenSlot freedSlot releasedIn formattedPages refsSound slotZero freeZero pageSound areaSound tabulate rowsOf withRows changesIn changesLeft reserved effect undone undoing lastNaming openIn logSound redone undoneIn recovered recoverable wordSound recordSound recordsSound appended wellFormed called verdict joined lengthsFit rowsInRange workInRange countsInRange inRange greyed perform formatted callFormat cut lockReadTests readLocked callLockRead lockWriteTests writeLocked callLockWrite readTests learned callRead bufferAfter createTests created callCreate setTests pruned wordSet callSet flushTests flushed callFlush passTests unflagged passStarted callPass lowestGrey targetsGreyed scanned marked sweepMap freedMap advanced sweepTests sweptPage swept stepTests callStep reopenTests reopened callReopen restepTests pageStored reopeningOver callRestep roomBeyond forceTests callForce storeTests callStore emptyTests callEmpty beginTests begun callBegin endedTables allFlushed commitTests committed callCommit rolledBack restored abortTests aborted callAbort same-texts fieldsOf numbersFrom callAlone callOne callTwo callFour commandOf linesOf digitsFrom numberOf digitsIn decimal outputLine pageSent transactionCall lockCall objectCall stabilityCall passCall reopeningCall benchCall outputFrom benchOutput
+unfolding allRight right table sameWords sameAreas refusedBy refusedAfter withBit withoutBit mapOf slotsSet over fill copied upTo same-spans all any count sum lowest isRefAt cleared takenSlot freedSlot releasedIn formattedPages refsSound slotZero freeZero pageSound areaSound tabulate rowsOf withRows changesIn changesLeft reserved effect undone undoing lastNaming openIn logSound redone undoneIn recovered recoverable wordSound recordSound recordsSound appended wellFormed called verdict joined lengthsFit rowsInRange workInRange countsInRange inRange greyed perform formatted callFormat cut lockReadTests readLocked callLockRead lockWriteTests writeLocked callLockWrite readTests learned callRead bufferAfter createTests created callCreate setTests pruned wordSet callSet flushTests flushed callFlush passTests unflagged passStarted callPass lowestGrey targetsGreyed scanned marked sweepMap freedMap advanced sweepTests sweptPage swept stepTests callStep reopenTests reopened callReopen restepTests pageStored reopeningOver callRestep roomBeyond forceTests callForce storeTests callStore emptyTests callEmpty beginTests begun callBegin endedTables allFlushed commitTests committed callCommit rolledBack restored abortTests aborted callAbort same-texts fieldsOf numbersFrom callAlone callOne callTwo callFour commandOf linesOf digitsFrom numberIn digitsIn decimal outputLine pageSent transactionCall lockCall objectCall stabilityCall passCall reopeningCall benchCall outputFrom benchOutput
 table-right = refl

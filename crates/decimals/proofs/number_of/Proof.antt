@@ -5,14 +5,14 @@ use Prim.Native.Nat.{_-_, _≤_}
 use mathlib.Core.Path.{_≡_, sym, _∙_}
 use lib.ListN.{length, drop}
 use Rattle.decimals.specs.Digits.{largest}
-use Rattle.decimals.specs.Numbers.{digitsFrom, numberOf}
+use Rattle.decimals.specs.Numbers.{digitsFrom, numberIn}
 use Rattle.texts.specs.Walk.{at-byte, at-end}
 use Rattle.decimals.proofs.NumberLaws.{digits-end, digits-low, digits-high, digits-over, digits-more, number-empty, number-leads, number-starts}
 use Rattle.decimals.proofs.number_of.Statement.{statement}
 use Rattle.decimals.proofs.number_of.Tie as tie
 
 abbrev Inv-loop : tie.InvT-loop
-Inv-loop s n₀ i₀ n i = (i ≤ length s) × (n ≤ largest) × (digitsFrom n (drop i s) ≡ numberOf s)
+Inv-loop s n₀ i₀ n i = (i ≤ length s) × (n ≤ largest) × (digitsFrom n (drop i s) ≡ numberIn s)
 
 abbrev μ-loop : tie.MeasureT-loop
 μ-loop s n₀ i₀ n i = length s - i
