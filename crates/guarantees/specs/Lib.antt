@@ -2,4 +2,3 @@
 pub mod Stable
 pub mod Points
 pub mod Refusals
-pub mod Run

@@ -6,38 +6,14 @@ use mathlib.Core.Bool.{Bool, true, false, _&&_}
 use mathlib.Core.List.{List, [], _∷_}
 use lib.ListN.{set, take, replicate}
 use lib.Dec.{eqb}
-use Rattle.areas.specs.Answers.{answerOf, valueOf, accepted, verdict}
+use Rattle.areas.specs.Answers.{answerOf, valueOf, accepted}
 use Rattle.areas.specs.Areas.{Areas, areas}
 use Rattle.calls.specs.Formatting.{formatted}
+use Rattle.calls.specs.Objects.{bufferAfter}
 use Rattle.calls.specs.Calls.{Call, begin, commit, lockWrite, read, create, setWord, flush, store, empty, reopen, perform}
 use Rattle.texts.specs.Text.{bytes}
 use Rattle.bench_run.specs.Bench.{benchStore, benchOutput}
-use Rattle.words.specs.Bits.{withBit, withoutBit, mapOf, slotsSet}
-use Rattle.words.specs.Spans.{over, fill, copied, upTo, same as same-spans}
-use Rattle.words.specs.Tests.{all, any, count, sum, lowest}
-use Rattle.pages.specs.Geometry.{isRefAt}
-use Rattle.pages.specs.Objects.{cleared, takenSlot, freedSlot, releasedIn, formattedPages}
-use Rattle.pages.specs.Soundness.{refsSound, slotZero, freeZero, pageSound, areaSound}
-use Rattle.pages.specs.Table.{tabulate, rowsOf, withRows}
-use Rattle.records.specs.Changes.{changesIn, changesLeft, reserved}
-use Rattle.records.specs.Effects.{effect, undone, undoing}
-use Rattle.records.specs.Naming.{lastNaming}
-use Rattle.records.specs.Order.{openIn, logSound}
-use Rattle.records.specs.Recovery.{redone, undoneIn, recovered, recoverable}
-use Rattle.records.specs.Soundness.{wordSound, recordSound, recordsSound}
-use Rattle.areas.specs.Areas.{appended}
-use Rattle.areas.specs.Entry.{wellFormed, called}
-use Rattle.areas.specs.Layout.{joined}
-use Rattle.areas.specs.Ranges.{lengthsFit, rowsInRange, workInRange, countsInRange, inRange}
-use Rattle.areas.specs.Tables.{greyed}
-use Rattle.calls.specs.Formatting.{callFormat, cut}
-use Rattle.calls.specs.Locks.{lockReadTests, readLocked, callLockRead, lockWriteTests, writeLocked, callLockWrite}
-use Rattle.calls.specs.Objects.{readTests, learned, callRead, bufferAfter, createTests, created, callCreate, setTests, pruned, wordSet, callSet, flushTests, flushed, callFlush}
-use Rattle.calls.specs.Pass.{passTests, unflagged, passStarted, callPass, lowestGrey, targetsGreyed, scanned, marked, sweepMap, freedMap, advanced, sweepTests, sweptPage, swept, stepTests, callStep}
-use Rattle.calls.specs.Reopening.{reopenTests, reopened, callReopen, restepTests, pageStored, reopeningOver, callRestep}
-use Rattle.calls.specs.Room.{roomBeyond}
-use Rattle.calls.specs.Stability.{forceTests, callForce, storeTests, callStore, emptyTests, callEmpty}
-use Rattle.calls.specs.Transactions.{beginTests, begun, callBegin, endedTables, allFlushed, commitTests, committed, callCommit, rolledBack, restored, abortTests, aborted, callAbort}
+use Rattle.computing.specs.Calls.{calls}
 use Rattle.texts.specs.Same.{same as same-texts}
 use Rattle.texts.specs.Lines.{linesOf}
 use Rattle.texts.specs.Fields.{fieldsOf}
@@ -61,23 +37,30 @@ sameAreas a b =
     sameWords (a .stored) (b .stored) && sameWords (a .copies) (b .copies) && sameWords (a .received) (b .received)
     && sameWords (a .log) (b .log) && sameWords (a .counts) (b .counts) && sameWords (a .work) (b .work)
 
--- a row: a store, the calls before, which must all be accepted, and a call that is refused with this number; or an input and its output
+-- a row: a store, the calls before, which must all be accepted, and a call that is refused with this number; a refused read, with its
+-- transaction, its object and its buffer; or an input and its output
 pub data Row : Type 0 where
   refusal : ℕ → Areas → List Call → Call → Row
+  refusedRead : ℕ → Areas → List Call → ℕ → ℕ → List ℕ → Row
   bench : List ℕ → List ℕ → Row
 
 -- the last call is refused with the number, its value is 0, and every word stays
 unfoldable pub refusedBy : ℕ → Areas → Call → Bool
 refusedBy x s c = let o = perform s c in eqb (answerOf (o .answer)) x && eqb (valueOf (o .answer)) 0 && sameAreas (o .after) s
 
--- after these calls, a call is refused with number k and keeps every word
-unfoldable pub refusedAfter : ℕ → Areas → List Call → Call → Bool
-refusedAfter x s [] c = refusedBy x s c
-refusedAfter x s (b ∷ bs) c = let o = perform s b in let on = refusedAfter x (o .after) bs c in accepted (o .answer) && on
+-- 'every buffer keeps its bytes': a read's too
+unfoldable pub readRefusedBy : ℕ → Areas → ℕ → ℕ → List ℕ → Bool
+readRefusedBy x s t o buffer = refusedBy x s (read t o buffer) && sameWords (bufferAfter s t o buffer) buffer
+
+-- these calls are accepted, and then the test holds of the store
+unfoldable pub after : List Call → (Areas → Bool) → Areas → Bool
+after [] f s = f s
+after (b ∷ bs) f s = let o = perform s b in let on = after bs f (o .after) in accepted (o .answer) && on
 
 -- a row of the table is right
 unfoldable pub right : Row → Bool
-right (refusal x s bs c) = refusedAfter x s bs c
+right (refusal x s bs c) = after bs (λ a. refusedBy x a c) s
+right (refusedRead x s bs t o buffer) = after bs (λ a. readRefusedBy x a t o buffer) s
 right (bench input output) = sameWords (benchOutput input) output
 
 -- all rows are
@@ -99,7 +82,7 @@ table =
     ∷ refusal 2 benchStore (reopen ∷ []) (begin 0)
     ∷ refusal 3 benchStore [] (begin 16)
     ∷ refusal 4 benchStore [] (commit 3)
-    ∷ refusal 5 benchStore (begin 0 ∷ []) (read 0 1 (replicate 8 0))
+    ∷ refusedRead 5 benchStore (begin 0 ∷ []) 0 1 (replicate 8 7)
     ∷ refusal 6 benchStore (begin 0 ∷ begin 1 ∷ lockWrite 0 0 ∷ []) (lockWrite 1 0)
     ∷ refusal 7 benchStore (begin 0 ∷ lockWrite 0 0 ∷ []) (setWord 0 1 0 9)
     ∷ refusal 8 benchStore (begin 0 ∷ lockWrite 0 0 ∷ []) (create 0 1)
@@ -115,5 +98,5 @@ table =
     ∷ []
 
 pub table-right : allRight table ≡ true
-unfolding allRight right table sameWords sameAreas refusedBy refusedAfter withBit withoutBit mapOf slotsSet over fill copied upTo same-spans all any count sum lowest isRefAt cleared takenSlot freedSlot releasedIn formattedPages refsSound slotZero freeZero pageSound areaSound tabulate rowsOf withRows changesIn changesLeft reserved effect undone undoing lastNaming openIn logSound redone undoneIn recovered recoverable wordSound recordSound recordsSound appended wellFormed called verdict joined lengthsFit rowsInRange workInRange countsInRange inRange greyed perform formatted callFormat cut lockReadTests readLocked callLockRead lockWriteTests writeLocked callLockWrite readTests learned callRead bufferAfter createTests created callCreate setTests pruned wordSet callSet flushTests flushed callFlush passTests unflagged passStarted callPass lowestGrey targetsGreyed scanned marked sweepMap freedMap advanced sweepTests sweptPage swept stepTests callStep reopenTests reopened callReopen restepTests pageStored reopeningOver callRestep roomBeyond forceTests callForce storeTests callStore emptyTests callEmpty beginTests begun callBegin endedTables allFlushed commitTests committed callCommit rolledBack restored abortTests aborted callAbort same-texts fieldsOf numbersFrom callAlone callOne callTwo callFour commandOf linesOf digitsFrom numberIn digitsIn decimal outputLine pageSent transactionCall lockCall objectCall stabilityCall passCall reopeningCall benchCall outputFrom benchOutput
+unfolding allRight right table sameWords sameAreas refusedBy readRefusedBy after calls same-texts fieldsOf numbersFrom callAlone callOne callTwo callFour commandOf linesOf digitsFrom numberIn digitsIn decimal outputLine pageSent transactionCall lockCall objectCall stabilityCall passCall reopeningCall benchCall outputFrom benchOutput
 table-right = refl

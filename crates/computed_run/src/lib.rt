@@ -1,0 +1,1 @@
+// A computed run is definitions alone.

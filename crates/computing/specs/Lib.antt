@@ -1,0 +1,3 @@
+-- Definitions opened for proofs by computation, in one place.
+pub mod Calls
+pub mod Book

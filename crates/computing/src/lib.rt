@@ -1,0 +1,1 @@
+// What is computed are definitions alone.
