@@ -1,8 +1,19 @@
--- 'Refused calls change nothing', of every call. Assumes nothing.
-use Rattle.areas.specs.Areas.{Areas}
+-- 'Refused calls change nothing', of every call, of format and of a read's buffer. Assumes nothing.
+use Prim.Native.Nat.{ℕ}
+use mathlib.Core.Path.{_≡_, refl}
+use mathlib.Core.Bool.{false}
+use mathlib.Core.List.{List}
+use Rattle.words.specs.Tests.{clash}
+use Rattle.areas.specs.declared.Answer.{Answer}
+use Rattle.areas.specs.declared.Answer.the-variants.{Done, Refused}
+use Rattle.areas.specs.Answers.{accepted, verdict}
+use Rattle.areas.specs.Areas.{Areas, done}
+use Rattle.areas.specs.Entry.{pages, records}
+use Rattle.calls.specs.Formatting.{formatted, formatTests, callFormat}
+use Rattle.calls.specs.Objects.{objectWords, callRead, ifAccepted, bufferAfter}
 use Rattle.calls.specs.Calls.{Call, perform}
 use Rattle.calls.specs.Calls.Call.{begin, commit, abort, lockRead, lockWrite, read, create, setWord, flush, force, store, empty, pass, step, reopen, restep, look}
-use Rattle.acceptance.specs.Ran.{Keeps}
+use Rattle.acceptance.specs.Ran.{Keeps, done-keeps, checked-keeps}
 use Rattle.acceptance.specs.Transactions.{begin-outcome, commit-outcome, abort-outcome}
 use Rattle.acceptance.specs.Locks.{lock-read-outcome, lock-write-outcome}
 use Rattle.acceptance.specs.Objects.{read-outcome, create-outcome, set-outcome, flush-outcome}
@@ -31,3 +42,15 @@ refused-keeps s step = step-outcome s .keeps
 refused-keeps s reopen = reopen-keeps s
 refused-keeps s restep = restep-outcome s .keeps
 refused-keeps s (look q) = look-outcome s q .keeps
+
+pub format-keeps : (s : Areas) → Keeps s (callFormat s)
+unfolding callFormat
+format-keeps s = let new = formatted (pages s) (records s) in checked-keeps (verdict (formatTests s)) s (done 0 new) (done-keeps s 0 new)
+
+buffer-by : (a : Answer) (words buffer : List ℕ) → accepted a ≡ false → ifAccepted a words buffer ≡ buffer
+buffer-by (Done v) words buffer e = clash refl e
+buffer-by (Refused x) words buffer e = refl
+
+pub buffer-keeps : (s : Areas) (t o : ℕ) (buffer : List ℕ) → accepted (callRead s t o buffer .answer) ≡ false → bufferAfter s t o buffer ≡ buffer
+unfolding bufferAfter
+buffer-keeps s t o buffer e = buffer-by (callRead s t o buffer .answer) (objectWords (s .received) o) buffer e

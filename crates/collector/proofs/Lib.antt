@@ -18,4 +18,3 @@ pub mod Sweep
 pub mod Rest
 pub mod Steps
 pub mod Safety
-pub mod Trial

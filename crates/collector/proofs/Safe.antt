@@ -6,7 +6,7 @@ use mathlib.Core.Bool.{Bool, true, false}
 use mathlib.Core.Logic.{_⊎_, inl, inr}
 use Rattle.collector.specs.Bits.{clash}
 use Rattle.collector.specs.Objects.{Obj, points}
-use Rattle.collector.specs.State.{Colour, white, grey, black, isWhite, isGrey, isBlack, greyed, Phase, idle, marking, sweeping, isSweeping}
+use Rattle.collector.specs.State.{Colour, white, grey, black, isWhite, isBlack, greyed, Phase, idle, marking, sweeping, isSweeping}
 
 -- reached from a grey object through objects that are not black
 pub data Grey (col : ℕ → Colour) (m : ℕ → Obj) : ℕ → Type 0 where
@@ -64,11 +64,6 @@ pub is-black : (c : Colour) → isBlack c ≡ true → c ≡ black
 is-black white h = clash h refl
 is-black grey h = clash h refl
 is-black black h = refl
-
-pub grey-is : (c : Colour) → isGrey c ≡ true → c ≡ grey
-grey-is white h = clash h refl
-grey-is grey h = refl
-grey-is black h = clash h refl
 
 pub is-sweeping : (p : Phase) → isSweeping p ≡ true → p ≡ sweeping
 is-sweeping idle e = clash e refl

@@ -5,9 +5,9 @@ use mathlib.Core.Bool.{Bool, true, false}
 use mathlib.Core.Logic.{_⊎_, inl, inr}
 use lib.Dec.{eqb}
 use borrow.Author.Tests.{eqb-true, eq-eqb}
-use Rattle.collector.specs.Bits.{_and_, anyb, by-bool, clash, and-l, and-r, and-intro, true-and, false-and, or-l, or-r, or-cases, not-true, anyb-intro, anyb-elim}
+use Rattle.collector.specs.Bits.{_and_, anyb, by-bool, clash, and-l, and-r, and-intro, true-and, false-and, or-r, or-cases, not-true, anyb-intro, anyb-elim}
 use Rattle.collector.specs.Objects.{txns}
-use Rattle.collector.specs.State.{add, remove, drop, holds}
+use Rattle.collector.specs.State.{add, remove, drop}
 use Rattle.collector.proofs.Invariant.{Exclusive, Unwritten}
 
 pub is-false : (b : Bool) → (b ≡ true → ⊥) → b ≡ false
@@ -42,10 +42,6 @@ module _ {pages : ℕ} {act : ℕ → Bool} {rd wr : ℕ → ℕ → Bool} (e : 
   -- a search over the transactions decides whether a page has a writer
   pub unwritten : (p : ℕ) → anyb txns (λ t. wr t p) ≡ false → Unwritten wr p
   unwritten p h t = is-false (wr t p) (λ w. clash (anyb-intro txns _ t (writer-bound t p w) w) h)
-
-  -- one over all locks too
-  pub unheld : (p : ℕ) → anyb txns (λ t. holds wr rd t p) ≡ false → Unwritten wr p
-  unheld p h t = is-false (wr t p) (λ w. clash (anyb-intro txns _ t (writer-bound t p w) (or-l _ _ w)) h)
 
   pub by-writer : {A : Type 0} (p : ℕ) → (Unwritten wr p → A) → ((t : ℕ) → wr t p ≡ true → A) → A
   by-writer p f g = by-bool (anyb txns (λ t. wr t p)) (λ h. anyb-elim _ _ h (λ t l w. g t w)) (λ h. f (unwritten p h))

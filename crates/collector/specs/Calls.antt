@@ -1,14 +1,13 @@
--- The calls of the collector's machine: the state after each where it is accepted, and the guards. Line numbers are given to the
--- states, so that a user who counts the book's lines says which they are. This machine serves the proof of demand 3; the claim of
--- demand 3 itself never mentions it. Assumes nothing.
-use Prim.Native.Nat.{ℕ, suc, _+_, _*_}
-use mathlib.Core.Bool.{Bool, true, false, not, cond}
-use mathlib.Core.List.{List, [], _∷_}
-use lib.Dec.{eqb, leb, ltb}
-use Rattle.collector.specs.Bits.{_and_, _or_, anyb, allb, first}
-use Rattle.collector.specs.Objects.{Obj, Tag, blank, fresh, put, bornAt, stamp, fields, isRef, points, txns, pageOf}
-use Rattle.collector.specs.State.{white, black, isWhite, isGrey, greyed, Phase, idle, marking, sweeping, isIdle, isMarking}
-use Rattle.collector.specs.State.{Locks, Tables, Pass, St, objects, add, remove, drop, some, carried, mix, holds, atRest}
+-- The calls of the collector's machine: the state after each where it is accepted; what an accepted call must have found stands with the
+-- proofs, in Facts. Line numbers are given to the states, so that a user who counts the book's lines says which they are. This machine
+-- serves the proof of demand 3; the claim of demand 3 itself never mentions it. Assumes nothing.
+use Prim.Native.Nat.{ℕ, suc}
+use mathlib.Core.Bool.{Bool, false, not, cond}
+use lib.Dec.{eqb, ltb}
+use Rattle.collector.specs.Bits.{_and_, _or_}
+use Rattle.collector.specs.Objects.{Obj, Tag, blank, fresh, put, bornAt, stamp, isRef, points, pageOf}
+use Rattle.collector.specs.State.{white, black, isWhite, greyed, Phase, idle, marking, sweeping, isIdle, isMarking}
+use Rattle.collector.specs.State.{Locks, Tables, Pass, St, add, remove, drop, some, carried, mix, atRest}
 
 abbrev pub knowing : Tables → (ℕ → ℕ → Bool) → Tables
 knowing b kn = record { kn = kn; prt = b .prt; cot = b .cot; cotF = b .cotF; dirty = b .dirty }
@@ -193,65 +192,3 @@ swept s m = record {
 -- a reopening: objects m with tags a in all areas, lines up to n, and nobody at work
 abbrev pub reset : St → (ℕ → Obj) → (ℕ → Tag) → ℕ → St
 reset s m a n = atRest (s .count) m a n
-
-abbrev pub lowestGrey : St → ℕ
-lowestGrey s = first (objects s) 1 (λ o. isGrey (s .pass .col o))
-
--- the page to sweep has a lock
-abbrev pub skipped : St → Bool
-skipped s = anyb txns (λ t. holds (s .locks .wr) (s .locks .rd) t (s .pass .at))
-
--- it has something to free
-abbrev pub frees : St → Bool
-frees s = anyb 16 (λ k. dead s (suc (16 * s .pass .at + k)))
-
-abbrev pub stepped : Phase → St → St
-stepped idle s = s
-stepped marking s = cond (isGrey (s .pass .col (lowestGrey s))) (marked s (lowestGrey s)) (turned s)
-stepped sweeping s = cond (skipped s or not (frees s)) (advanced s) (swept s (s .tags .now))
-
-pub data Call : Type 0 where
-  begin commit : ℕ → Call
-  -- with the number of lines that the undoing adds
-  abort : ℕ → ℕ → Call
-  lockr lockw read create flush : ℕ → ℕ → Call
-  set : ℕ → ℕ → ℕ → ℕ → Call
-  pass step : Call
-  reopen : (ℕ → Obj) → (ℕ → Tag) → ℕ → Call
-
-unfoldable pub allowed : St → Call → Bool
-allowed s (begin t) = ltb t txns and not (s .locks .act t)
-allowed s (commit t) = s .locks .act t and allb (s .count) (λ p. not (s .tables .dirty t p))
-allowed s (abort t k) = s .locks .act t
-allowed s (lockr t p) = s .locks .act t and ltb p (s .count) and allb txns (λ u. eqb u t or not (s .locks .wr u p))
-allowed s (lockw t p) = s .locks .act t and ltb p (s .count) and allb txns (λ u. eqb u t or not (holds (s .locks .wr) (s .locks .rd) u p))
-allowed s (read t o) = s .locks .act t and holds (s .locks .wr) (s .locks .rd) t (pageOf o) and s .tables .kn t o
-allowed s (create t o) = s .locks .act t and leb 1 o and leb o (objects s) and owns s t o and not (s .pages .rec o .occ)
-allowed s (set t o f v) = s .locks .act t and ltb f fields and owns s t o and s .tables .kn t o and (not (isRef (s .pages .rec o) f) or eqb v 0 or s .tables .kn t v)
-allowed s (flush t p) = s .locks .act t and s .locks .wr t p
-allowed s pass = isIdle (s .pass .phase)
-allowed s step = not (isIdle (s .pass .phase))
-allowed s (reopen m a n) = true
-
-abbrev pub after : St → Call → St
-after s (begin t) = begun s t (suc (s .tags .now))
-after s (commit t) = committed s t (suc (s .tags .now))
-after s (abort t k) = aborted s t (s .tags .now + k)
-after s (lockr t p) = readLocked s t p
-after s (lockw t p) = writeLocked s t p
-after s (read t o) = readBy s t o
-after s (create t o) = created s t o (s .tags .now)
-after s (set t o f v) = written s t o f v (s .tags .now)
-after s (flush t p) = flushed s t p
-after s pass = started s
-after s step = stepped (s .pass .phase) s
-after s (reopen m a n) = reset s m a n
-
--- a refused call changes nothing
-unfoldable pub perform : St → Call → St
-unfolding allowed
-perform s c = cond (allowed s c) (after s c) s
-
-unfoldable pub run : St → List Call → St
-run s [] = s
-run s (c ∷ cs) = run (perform s c) cs

@@ -10,7 +10,7 @@ use Rattle.words.specs.Tests.{clash}
 use Rattle.areas.specs.Answers.{Test, accepted}
 use Rattle.areas.specs.Areas.{Areas, Out}
 use Rattle.areas.specs.Entry.{reopening}
-use Rattle.calls.specs.Calls.{Call, perform}
+use Rattle.calls.specs.Calls.{Call, reopens, perform}
 use Rattle.calls.specs.Calls.Call.{begin, commit, abort, lockRead, lockWrite, read, create, setWord, flush, force, store, empty, pass, step, reopen, restep, look}
 use Rattle.acceptance.specs.Entered.{opened}
 use Rattle.acceptance.specs.Ran.{Outcome}
@@ -20,26 +20,6 @@ use Rattle.acceptance.specs.Objects.{read-outcome, create-outcome, set-outcome,
 use Rattle.acceptance.specs.Stability.{force-outcome, store-outcome, empty-outcome}
 use Rattle.acceptance.specs.Pass.{pass-outcome, step-outcome}
 use Rattle.acceptance.specs.Looks.{look-outcome}
-
--- a call of reopening
-abbrev pub reopens : Call → Bool
-reopens (begin t) = false
-reopens (commit t) = false
-reopens (abort t) = false
-reopens (lockRead t p) = false
-reopens (lockWrite t p) = false
-reopens (read t o buffer) = false
-reopens (create t o) = false
-reopens (setWord t o f v) = false
-reopens (flush t p image) = false
-reopens force = false
-reopens (store p) = false
-reopens empty = false
-reopens pass = false
-reopens step = false
-reopens reopen = true
-reopens restep = true
-reopens (look q) = false
 
 ran-open : (own : Bool) (s : Areas) (tests : ℕ → List Test) (o : Out) (k : ℕ → Out) → Outcome true own s tests o k → accepted (o .answer) ≡ true → reopening s ≡ 2
 ran-open own s tests o k h a = let r = h .ran a in opened own s (r .n) (r .ready) .finished

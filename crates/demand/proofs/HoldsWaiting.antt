@@ -42,13 +42,13 @@ pub waiting-spares : (n : ℕ) (s : Areas) (b : Book) → (reopening s ≡ 2 →
 waiting-spares n s b h = record { reached = λ o a. no-step s h a; known = λ t o a. no-step s h a }
 
 -- the stages apart
-awaiting-opened : {A : Type 0} → Books.awaiting ≡ Books.opened → A
+pub awaiting-opened : {A : Type 0} → Books.awaiting ≡ Books.opened → A
 awaiting-opened e = let z : _≡_ {A = ℕ} 0 1 = cc in absurd (omega arith)
 
-awaiting-storing : {A : Type 0} {k : ℕ} → Books.awaiting ≡ storing k → A
+pub awaiting-storing : {A : Type 0} {k : ℕ} → Books.awaiting ≡ storing k → A
 awaiting-storing e = let z : _≡_ {A = ℕ} 0 1 = cc in absurd (omega arith)
 
-storing-opened : {A : Type 0} {k : ℕ} → storing k ≡ Books.opened → A
+pub storing-opened : {A : Type 0} {k : ℕ} → storing k ≡ Books.opened → A
 storing-opened e = let z : _≡_ {A = ℕ} 0 1 = cc in absurd (omega arith)
 
 storing-same : {j k : ℕ} → storing j ≡ storing k → j ≡ k

@@ -7,7 +7,7 @@ use mathlib.Core.List.{List, [], _∷_}
 use Rattle.words.specs.Tests.{by-bool}
 use Rattle.areas.specs.Answers.{accepted}
 use Rattle.areas.specs.Areas.{Areas}
-use Rattle.calls.specs.Calls.{Call, perform}
+use Rattle.calls.specs.Calls.{Call, reopens, perform}
 use Rattle.calls.specs.Calls.Call.{begin, commit, abort, lockRead, lockWrite, read, create, setWord, flush, force, store, empty, pass, step, reopen, restep, look}
 use Rattle.calls.specs.Looks.{Look}
 use Rattle.acceptance.specs.Looks.{look-keeps}
@@ -16,7 +16,7 @@ use Rattle.book.specs.Books.{Book}
 use Rattle.book.specs.Feeding.{fed}
 use Rattle.book.specs.Demand.{Event, call, power, Point, accepts, after, start, Holds, Throughout, last, then, Demand3}
 use Rattle.demand.proofs.State.{OpenInv, Inv3, open-store, cut-store, reopening-store}
-use Rattle.demand.proofs.Finished.{reopens, accepted-open}
+use Rattle.demand.proofs.Finished.{accepted-open}
 use Rattle.demand.proofs.Holds.{open-holds}
 use Rattle.demand.proofs.HoldsWaiting.{await-holds, storing-holds}
 use Rattle.demand.proofs.Begin.{open-begin}

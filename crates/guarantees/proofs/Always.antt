@@ -23,7 +23,7 @@ use Rattle.areas.specs.Areas.{Areas, Out, receivedCount, stableCount}
 use Rattle.areas.specs.Layout.{reopeningPageAt, phaseAt, passPageAt, workWords}
 use Rattle.areas.specs.Tables.{at}
 use Rattle.areas.specs.Entry.{pages, records, reopening}
-use Rattle.calls.specs.Calls.{Call, perform}
+use Rattle.calls.specs.Calls.{Call, reopens, perform}
 use Rattle.calls.specs.Calls.Call.{begin, commit, abort, lockRead, lockWrite, read, create, setWord, flush, force, store, empty, pass, step, reopen, restep, look}
 use Rattle.calls.specs.Formatting.{formatted, cut}
 use Rattle.calls.specs.Pass.{advanced, freedMap, sweepMap, locked, sweepTests, lowestGrey, callStep}
@@ -56,7 +56,7 @@ use Rattle.book_laws.specs.Seen.{committedOf}
 use Rattle.book_laws.proofs.Folds.{formatted-length, formatted-view}
 use Rattle.book_laws.proofs.Sweeps.{sweep-kept}
 use Rattle.demand.proofs.State.{OpenInv, StoringInv, Inv3, open-store, cut-store, reopening-store}
-use Rattle.demand.proofs.Finished.{reopens, accepted-open}
+use Rattle.demand.proofs.Finished.{accepted-open}
 use Rattle.demand.proofs.Begin.{open-begin}
 use Rattle.demand.proofs.Commit.{open-commit}
 use Rattle.demand.proofs.Abort.{open-abort}

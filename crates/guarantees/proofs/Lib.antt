@@ -7,3 +7,4 @@ pub mod Fine
 pub mod Keeps
 pub mod Always
 pub mod Refusals
+pub mod Stages

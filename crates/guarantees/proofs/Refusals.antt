@@ -108,7 +108,7 @@ unfolding perform
 never-unsound = always Reopenable (λ n some q u. reopenable n some (q .store) (q .book) (u .inv) (u .fine))
 
 -- refusal 1
-formed : (n : ℕ) (s : Areas) (b : Book) → Fine n s b → (own : Bool) → own ≡ true → wellFormed own s ≡ true
+pub formed : (n : ℕ) (s : Areas) (b : Book) → Fine n s b → (own : Bool) → own ≡ true → wellFormed own s ≡ true
 unfolding wellFormed
 formed n s b f own e = rw (e, fits n s (f .sized), f .sized .count) (by-bool (eqb (reopening s) 0)
     (λ z. rw z refl)

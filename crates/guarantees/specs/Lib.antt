@@ -1,4 +1,6 @@
 -- What document 01 says beside demand 3, as statements.
+pub mod Unchanged
 pub mod Stable
 pub mod Points
 pub mod Refusals
+pub mod Stages

@@ -1,4 +1,5 @@
--- Moves keep the invariant: reopening over any stable part of the log leaves the committed state of the book. Assumes nothing.
+-- Moves keep the invariant, whose `past` says that reopening over any stable part of the log leaves the committed state of the book.
+-- Assumes nothing.
 use Prim.Native.Nat.{ℕ}
 use mathlib.Core.Path.{_≡_, refl, sym, ap, _∙_}
 use mathlib.Core.Bool.{Bool, true, false, not, cond}
@@ -10,7 +11,7 @@ use Rattle.collector.specs.Bits.{_and_, _or_, by-bool, clash, and-l, and-r, and
 use Rattle.collector.specs.Objects.{Obj, blank, pageOf}
 use Rattle.collector.specs.State.{add, drop}
 use Rattle.collector.proofs.Tables.{is-false, add-cases, drop-other, drop-old, drop-is}
-use Rattle.recovery_proof.specs.Lines.{acts, with, without, replay, book, undo, touches, everyone, Always, first, also, Recovers}
+use Rattle.recovery_proof.specs.Lines.{acts, with, without, replay, book, undo, touches, everyone, first, also}
 use Rattle.recovery_proof.specs.Moves.{Log, own, beginning, locking, wrote, committing, ending, sweeping, Move, begin, lock, write, commit, end, sweep, Moves, none, more, opened}
 use Rattle.recovery_proof.proofs.Counting.{apart, undo-agree, book-agree, Opened, undo-none}
 use Rattle.recovery_proof.proofs.Invariant.{Good, Writers, Inv, inv}
@@ -174,10 +175,3 @@ pub fresh-start : (base : ℕ → Obj) → Inv base (opened base)
 unfolding replay undo book touches Opened Good
 fresh-start base = inv (opened base) (λ o. refl) (λ o. refl) (λ o. refl) (λ t o h. clash h refl) (λ t o w. refl) (λ o w. refl) tt
     (record { sole = λ t u p a b. clash a refl; busy = λ t p w. clash w refl }) first tt
-
-pub throughout : (base : ℕ → Obj) (s : Log) → Moves (opened base) s → Inv base s
-throughout base s ms = keep-all base (opened base) s ms (fresh-start base)
-
--- The theorem: whatever part of the log was stable, reopening leaves the committed state of its lines.
-pub recovery : (base : ℕ → Obj) (s : Log) → Moves (opened base) s → Always (Recovers base) (s .lines)
-recovery base s ms = throughout base s ms .past
