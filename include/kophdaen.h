@@ -2,14 +2,18 @@
  *
  * Every call is lent the six areas of docs/LAYOUT.md, each as a pointer and its length in words:
  * stored pages, page copies, received pages (129 * P words each), the log (6 * L), the two log
- * counts (2) and the working tables (6 + 67 * P), with P from 1 to 256 and L from 1 to 4096. No
- * area may overlap another. An area that a call only reads is const. The library keeps no pointer
- * and allocates nothing. A call takes the areas, then the buffer or the image that it is lent, then
- * its numbers; kophdaen_areas_NAME, at the end, takes the areas as one struct.
+ * counts (2) and the working tables (6 + 67 * P), with P from 1 to 256 and L from 1 to 4096. An
+ * area that a call only reads is const. The library keeps no pointer and allocates nothing. A call
+ * takes the areas, then the buffer or the image that it is lent, then its numbers;
+ * kophdaen_areas_NAME, at the end, takes the areas as one struct.
+ *
+ * What no call can look at is the caller's word: each pointer is valid for its length and aligned
+ * as a uint32_t (with the length 0 it may be NULL, and the call answers 1), and what a call is lent
+ * does not overlap, its image or buffer neither with an area.
  *
  * A call answers  answer number * 2^32 + value : number 0 where accepted, else the refusal's number
  * in document 01's table, with the value 0 and every buffer as it was. Any words may be lent.
- * docs/CALLING.md has the refusals, what to write to the disk and when, and a complete program.
+ * docs/CALLING.md has the refusals, what to write to the disk and when, and names whole programs.
  */
 #ifndef KOPHDAEN_H
 #define KOPHDAEN_H
@@ -122,7 +126,7 @@ uint64_t kophdaen_pass_step(
     uint32_t *received, size_t received_words, uint32_t *log, size_t log_words,
     uint32_t *counts, size_t counts_words, uint32_t *work, size_t work_words);
 
-/* Replays the stable log over the stored pages. Checks lengths only for refusal 1. Takes up to 180 kB of
+/* Replays the stable log over the stored pages. Checks lengths only for refusal 1. Takes 176 kB of
  * stack. Value 0. */
 uint64_t kophdaen_reopen(
     const uint32_t *stored, size_t stored_words, uint32_t *copies, size_t copies_words,

@@ -3,7 +3,7 @@
 //! A [`Store`] owns the six lent areas (docs/LAYOUT.md) and offers every call of document 01 on
 //! them. The library's promises settle the answer and every word for all inputs, so the areas may
 //! be looked at and written at will: no words in them are unsafe to lend.
-//! docs/CALLING.md has the refusals, what to write to the disk and when, and a complete program.
+//! docs/CALLING.md has the refusals, what to write to the disk and when, and names two complete programs.
 
 /// What a call answered: 0 or a refusal's number, and the value (0 where refused).
 #[derive(Clone, Copy, PartialEq, Eq, Debug)]

@@ -1,0 +1,40 @@
+/* include/kophdaen.h: with the length 0 a pointer may be NULL, and the call answers 1. Tried of areas, of an image and of a read
+ * buffer. Prints nothing where it is so. */
+#include <stdio.h>
+
+#include "kophdaen.h"
+
+enum { PAGES = 1, RECORDS = 4 };
+
+static uint32_t stored[PAGES * KOPHDAEN_PAGE_WORDS], copies[PAGES * KOPHDAEN_PAGE_WORDS], received[PAGES * KOPHDAEN_PAGE_WORDS];
+static uint32_t records[RECORDS * KOPHDAEN_RECORD_WORDS], counts[KOPHDAEN_COUNTS_WORDS], work[KOPHDAEN_WORK_WORDS(PAGES)];
+#define LENT(area) area, sizeof area / sizeof *area
+
+static int wrong;
+
+static void answers(const char *what, uint64_t code, uint32_t number)
+{
+    if (KOPHDAEN_ANSWER(code) != number) {
+        printf("%s answers %u, not %u\n", what, (unsigned)KOPHDAEN_ANSWER(code), (unsigned)number);
+        wrong = 1;
+    }
+}
+
+int main(void)
+{
+    const kophdaen_areas none = {NULL, 0, NULL, 0, NULL, 0, NULL, 0, NULL, 0, NULL, 0};
+    const kophdaen_areas depot = {LENT(stored), LENT(copies), LENT(received), LENT(records), LENT(counts), LENT(work)};
+    kophdaen_areas unlogged = depot;
+    unlogged.log = NULL;
+    unlogged.log_words = 0;
+    answers("format of nothing", kophdaen_areas_format(&none), 1);
+    answers("begin on nothing", kophdaen_areas_begin(&none, 0), 1);
+    answers("reopen of nothing", kophdaen_areas_reopen(&none), 1);
+    answers("format", kophdaen_areas_format(&depot), 0);
+    answers("begin without a log", kophdaen_areas_begin(&unlogged, 0), 1);
+    answers("begin", kophdaen_areas_begin(&depot, 0), 0);
+    answers("a lock for writing", kophdaen_areas_lock_write(&depot, 0, 0), 0);
+    answers("read into no buffer", kophdaen_areas_read(&depot, NULL, 0, 0, 1), 1);
+    answers("flush of no image", kophdaen_areas_flush(&depot, NULL, 0, 0, 0), 1);
+    return wrong;
+}
