@@ -1,8 +1,17 @@
 // The bench program: a store of 4 pages and 64 log records in memory; lines in, answers out.
-use areas::Answer;
+ghost use Prim.Native.Nat.{_+_, _*_, _<_};
+ghost use mathlib.Core.Path.{_≡_};
+ghost use Rattle.areas.specs.Areas.{areas};
+ghost use Rattle.bench_run.specs.Bench.{benchStore};
+ghost use Rattle.bench_serving.specs.Held.{stateOf};
+ghost use Rattle.bench.specs.Turns.{chunk, Reached, Lines};
 use areas::layout;
-use bench_feeding::Ended;
-use bench_feeding::Line;
+use bench_serving::Place;
+use bench_serving::serve_bytes;
+use bench_serving::serve_last;
+use libc::STDERR_FILENO;
+use libc::STDIN_FILENO;
+use libc::STDOUT_FILENO;
 
 // The store: so many pages and log records.
 const PAGES: usize = 4;
@@ -19,72 +28,95 @@ const COUNTS: usize = layout::COUNT_WORDS;
 const WORK_AREA: usize = layout::SINGLE_WORDS + layout::WORDS_PER_PAGE * PAGES;
 
 // The bytes that are read at a time.
-const CHUNK: usize = 4096;
+const CHUNK: usize = 1024;
 
-// Standard input and output.
-const INPUT: i32 = 0;
+// Room for the output lines of a chunk: a byte ends at most one line.
+const OUT_ROOM: usize = bench_output::LINE_ROOM * CHUNK;
 
-const OUTPUT: i32 = 1;
+// The chunks that are read at most, since a proved loop ends: their lines have numbers of 64 bits, and no run has as many.
+const TURNS: u64 = u64::MAX / (CHUNK as u64);
 
-// Where the reading stands: the line so far, and the number of the next one.
-struct Place {
-    line: Line,
-    number: u64,
-}
-
-// Writes the output line of an answer.
-fn tell(number: u64, a: Answer) {
-    let mut buf = [0u8; bench_output::LINE_ROOM];
-    let value = areas::value_of(a);
-    let answer = areas::answer_of(a);
-    let n = bench_output::put_line(&mut buf, number, answer, value);
-    io::write_all(OUTPUT, &buf[..n]);
-}
-
-// Does the call of a line that ended, and answers the number of the next line.
-fn take(
-    stored: &mut [u32],
-    copies: &mut [u32],
-    received: &mut [u32],
-    log: &mut [u32],
-    counts: &mut [u32],
-    work: &mut [u32],
-    number: u64,
-    ended: Ended,
-) -> u64 {
-    match ended {
-        Ended::No => number,
-        Ended::Yes(c) => {
-            let a = bench_calls::serve(stored, copies, received, log, counts, work, c);
-            tell(number, a);
-            std::num::wrapping_add_u64(number, 1)
-        }
-    }
-}
-
-// Takes the bytes of a chunk one by one.
-fn take_bytes(
-    stored: &mut [u32],
-    copies: &mut [u32],
-    received: &mut [u32],
-    log: &mut [u32],
-    counts: &mut [u32],
-    work: &mut [u32],
+// Where the program stands between two chunks: the place, the chunks that may still be read, and whether the input ended.
+struct Turn {
     place: Place,
-    bytes: &[u8],
-) -> Place {
-    let mut line = place.line;
-    let mut number = place.number;
-    for i in 0..bytes.len() {
-        let fed = bench_feeding::feed(line, bytes[i]);
-        line = fed.line;
-        let ended = fed.ended;
-        number = take(stored, copies, received, log, counts, work, number, ended);
-    }
-    Place { line, number }
+    turns: u64,
+    ended: bool,
 }
 
-// Takes all of standard input.
+// Reads a chunk, or says that it failed.
+fn read_chunk(buf: &mut [u8]) -> isize {
+    let got = libc::read(STDIN_FILENO, buf);
+    if got < 0 {
+        io::write_all(STDERR_FILENO, b"bench: reading failed\n");
+    }
+    got
+}
+
+// Writes output lines, or says that it failed.
+fn put(lines: &[u8]) -> bool
+    requires { ⌜ Lines (now lines) ⌝ }
+{
+    let written = io::write_all(STDOUT_FILENO, lines);
+    if !written {
+        io::write_all(STDERR_FILENO, b"bench: writing failed\n");
+    }
+    written
+}
+
+// The turns that are left after one more: none at the end of the input, or where reading or writing failed.
+fn left(turns: u64, got: isize, written: bool) -> u64
+    requires { ⌜ 0 < turns ⌝ }
+    ensures { λ r. ⌜ r < turns ⌝ }
+{
+    if got <= 0 {
+        return 0;
+    }
+    if !written {
+        return 0;
+    }
+    turns - 1
+}
+
+// Reads a chunk, serves its bytes, and writes their output lines with one write.
+fn take_chunk(
+    stored: &mut [u32],
+    copies: &mut [u32],
+    received: &mut [u32],
+    log: &mut [u32],
+    counts: &mut [u32],
+    work: &mut [u32],
+    turn: Turn,
+) -> Turn
+    requires { ⌜ (0 < turn .turns) × Reached (stateOf (areas (now stored) (now copies) (now received) (now log) (now counts) (now work)) (turn .place)) (chunk * turn .turns + 1) ⌝ }
+    ensures { λ r. ⌜ (r .turns < turn .turns) × Reached (stateOf (areas (now (stored .exit)) (now (copies .exit)) (now (received .exit)) (now (log .exit)) (now (counts .exit)) (now (work .exit))) (r .place)) (chunk * r .turns + 1) ⌝ }
+{
+    let place = turn.place;
+    let mut buf = [0u8; CHUNK];
+    let got = read_chunk(&mut buf);
+    let n = io::count(got, &buf);
+    let mut out = [0u8; OUT_ROOM];
+    let at = serve_bytes(
+        stored,
+        copies,
+        received,
+        log,
+        counts,
+        work,
+        &mut out,
+        place,
+        &buf[..n],
+    );
+    let used = at.used;
+    let written = put(&out[..used]);
+    let turns = left(turn.turns, got, written);
+    Turn {
+        place: at,
+        turns,
+        ended: got == 0,
+    }
+}
+
+// Takes standard input, chunk by chunk.
 fn take_input(
     stored: &mut [u32],
     copies: &mut [u32],
@@ -92,46 +124,58 @@ fn take_input(
     log: &mut [u32],
     counts: &mut [u32],
     work: &mut [u32],
-) {
-    let mut place = Place {
-        line: bench_feeding::no_line(),
-        number: 1,
+) -> Turn
+    requires { ⌜ areas (now stored) (now copies) (now received) (now log) (now counts) (now work) ≡ benchStore ⌝ }
+    ensures { λ r. ⌜ Reached (stateOf (areas (now (stored .exit)) (now (copies .exit)) (now (received .exit)) (now (log .exit)) (now (counts .exit)) (now (work .exit))) (r .place)) 1 ⌝ }
+{
+    let place = bench_serving::start();
+    let mut turn = Turn {
+        place,
+        turns: TURNS,
+        ended: false,
     };
-    // A proved loop ends: it counts its turns down, from a number that no run uses up.
-    let mut turns = u64::MAX;
-    let mut buf = [0u8; CHUNK];
-    while turns > 0 {
-        let got = libc::read(INPUT, &mut buf);
-        if got <= 0 {
-            turns = 0;
-        } else {
-            let n = io::count(got, &buf);
-            place = take_bytes(
-                stored,
-                copies,
-                received,
-                log,
-                counts,
-                work,
-                place,
-                &buf[..n],
-            );
-            turns -= 1;
-        }
+    while turn.turns > 0 {
+        turn = take_chunk(stored, copies, received, log, counts, work, turn);
     }
-    let last = bench_feeding::finish(place.line);
-    take(
-        stored,
-        copies,
-        received,
-        log,
-        counts,
-        work,
-        place.number,
-        last,
-    );
+    turn
 }
 
+// Takes the end of the input: the last line, and its output line.
+fn take_last(
+    stored: &mut [u32],
+    copies: &mut [u32],
+    received: &mut [u32],
+    log: &mut [u32],
+    counts: &mut [u32],
+    work: &mut [u32],
+    place: Place,
+)
+    requires { ⌜ Reached (stateOf (areas (now stored) (now copies) (now received) (now log) (now counts) (now work)) place) 1 ⌝ }
+{
+    let mut out = [0u8; bench_output::LINE_ROOM];
+    let next = serve_last(stored, copies, received, log, counts, work, &mut out, place);
+    let used = next.used;
+    put(&out[..used]);
+}
+
+// Takes standard input to its end. Where reading or writing failed, nothing more is done.
+fn take_all(
+    stored: &mut [u32],
+    copies: &mut [u32],
+    received: &mut [u32],
+    log: &mut [u32],
+    counts: &mut [u32],
+    work: &mut [u32],
+)
+    requires { ⌜ areas (now stored) (now copies) (now received) (now log) (now counts) (now work) ≡ benchStore ⌝ }
+{
+    let turn = take_input(stored, copies, received, log, counts, work);
+    if turn.ended {
+        take_last(stored, copies, received, log, counts, work, turn.place);
+    }
+}
+
+// The status is 0 also where reading or writing failed, which standard error says: nothing ends a Rattle program with another.
 fn main() {
     let mut stored = [0u32; PAGE_AREA];
     let mut copies = [0u32; PAGE_AREA];
@@ -147,7 +191,7 @@ fn main() {
         &mut counts,
         &mut work,
     );
-    take_input(
+    take_all(
         &mut stored,
         &mut copies,
         &mut received,

@@ -1,0 +1,2 @@
+-- Where the bench program can stand between two chunks of its input.
+pub mod Turns
