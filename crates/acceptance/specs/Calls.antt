@@ -10,7 +10,7 @@ use Rattle.areas.specs.Answers.{accepted, verdict}
 use Rattle.areas.specs.Areas.{Areas, done}
 use Rattle.areas.specs.Entry.{pages, records}
 use Rattle.calls.specs.Formatting.{formatted, formatTests, callFormat}
-use Rattle.calls.specs.Objects.{objectWords, callRead, ifAccepted, bufferAfter}
+use Rattle.calls.specs.Objects.{callRead, ifAccepted, bufferAfter}
 use Rattle.calls.specs.Calls.{Call, perform}
 use Rattle.calls.specs.Calls.Call.{begin, commit, abort, lockRead, lockWrite, read, create, setWord, flush, force, store, empty, pass, step, reopen, restep, look}
 use Rattle.acceptance.specs.Ran.{Keeps, done-keeps, checked-keeps}
@@ -53,4 +53,4 @@ buffer-by (Refused x) words buffer e = refl
 
 pub buffer-keeps : (s : Areas) (t o : ℕ) (buffer : List ℕ) → accepted (callRead s t o buffer .answer) ≡ false → bufferAfter s t o buffer ≡ buffer
 unfolding bufferAfter
-buffer-keeps s t o buffer e = buffer-by (callRead s t o buffer .answer) (objectWords (s .received) o) buffer e
+buffer-keeps s t o buffer e = buffer-by (callRead s t o buffer .answer) _ buffer e
