@@ -14,7 +14,8 @@ use Rattle.calls.specs.Formatting.{formatted, cut}
 use Rattle.calls.specs.Calls.{Call, step, restep, perform}
 use Rattle.book.specs.Books.{opened, awaiting, storing, Book, blank, committedLines, fullLines, committedPages, fullPages, stopped}
 use Rattle.book.specs.Feeding.{fed}
-use Rattle.book.specs.Pointers.{Reached, Leads}
+use Rattle.book.specs.Pointers.{Leads}
+use Rattle.reach.specs.Reaching.{Reached}
 
 -- 'Take any list of calls .. and of power cuts'. A cut in a call acts on what stood at its entry (the call is not in the list) or at its exit
 -- (the call stands before the cut).

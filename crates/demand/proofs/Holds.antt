@@ -20,7 +20,8 @@ use Rattle.acceptance.specs.Pass.{step-outcome, step-way, step-facts, StepWay, 
 use Rattle.book.specs.Books as Books
 use Rattle.book.specs.Books.{Book, committedLines, fullLines, committedPages, fullPages, countsFull, storing}
 use Rattle.book.specs.Demand.{Point, Holds, Spares, Reopens, accepts, reclaims}
-use Rattle.book.specs.Pointers.{Reached, Leads}
+use Rattle.book.specs.Pointers.{Leads}
+use Rattle.reach.specs.Reaching.{Reached}
 use Rattle.collector.specs.Bits.{true-and}
 use Rattle.collector.specs.Objects as O
 use Rattle.collector.specs.Objects.{Obj, Reach, edge}

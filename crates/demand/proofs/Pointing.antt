@@ -13,7 +13,8 @@ use Rattle.pages.specs.Geometry.{isRef, isRefAt, objectCount, slotWords}
 use Rattle.pages.specs.Objects.{occupied, wordOf}
 use Rattle.records.specs.declared.Record.{Record}
 use Rattle.book.specs.Lines.{Line, filtered, pagesAfter}
-use Rattle.book.specs.Pointers.{Refers, Reached, root, next, Leads}
+use Rattle.book.specs.Pointers.{Leads}
+use Rattle.reach.specs.Reaching.{Refers, Reached, root, next}
 use Rattle.collector.specs.Bits.{anyb-elim, and-l, and-r}
 use Rattle.collector.specs.Objects as O
 use Rattle.collector.specs.Objects.{Obj, Tag, points, Reach, edge, Whole}

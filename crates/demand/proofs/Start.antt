@@ -15,7 +15,8 @@ use Rattle.areas.specs.Entry.{pages, reopening}
 use Rattle.calls.specs.Formatting.{formatted}
 use Rattle.book.specs.Lines.{filtered, pagesAfter}
 use Rattle.book.specs.Books.{blank, countsCommitted, committedLines}
-use Rattle.book.specs.Pointers.{Reached, root, next, unbroken, Leads}
+use Rattle.book.specs.Pointers.{unbroken, Leads}
+use Rattle.reach.specs.Reaching.{Reached, root, next}
 use Rattle.collector.specs.Objects.{Obj}
 use Rattle.machine_view.proofs.Effects.{view-word}
 use Rattle.book_laws.proofs.Folds.{formatted-length, formatted-view}
