@@ -16,7 +16,7 @@ use Rattle.calls.specs.Formatting.{cut}
 use Rattle.book.specs.Books.{awaiting, Book, stopped}
 use Rattle.record_laws.specs.RecordLaws.{open-same}
 use Rattle.recovery_proof.proofs.Appending.{recs-same}
-use Rattle.book_laws.proofs.Folds.{zeros, zero-at}
+use Rattle.demand.proofs.Formatted.{zeros, zero-at}
 use Rattle.demand.proofs.State.{stable, Inv3, cut-store}
 use Rattle.demand.proofs.Stopping.{stops, inv-size, waiting-moved}
 

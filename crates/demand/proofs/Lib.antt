@@ -1,4 +1,5 @@
 -- The proof of demand 3.
+pub mod Formatted
 pub mod State
 pub mod Pointing
 pub mod Holds

@@ -53,7 +53,7 @@ open-learns n s b t f i h = open-noted n s b i (s .stored) (s .counts) (b .stabl
       | inr d ↦ ap (λ (v : ℕ). tablesOf (s .work) n .kn v x) (eqb-true u t e) ∙ h x d
     ])
     (λ e. i .known u x (rw e at k)))
-    (i .base) (log-quiet n s b (i .base) (i .log) s (learns b t f) (record { log = refl; counts = refl; stored = refl; lines = refl; stable-lines = refl; running = refl })
+    (i .base) (log-quiet n s b (i .base) (i .log) s (learns b t f) (record { log = refl; counts = refl; stored = refl; origin = refl; lines = refl; stable-lines = refl; running = refl })
     (i .log .inv) (λ u. refl) (i .log .copies))
 
 module _ (n : ℕ) (some : 1 ≤ n) (s : Areas) (b : Book) (i : OpenInv n s b) (h : Open s n) (t o : ℕ) (f : Accepted.ReadFacts s n t o) where

@@ -51,7 +51,7 @@ use Rattle.record_laws.specs.SoundRecords.{sweep-sound}
 use Rattle.recovery_proof.proofs.Steps.{logOf, log-sweep}
 use Rattle.book_laws.specs.After.{sweptBy}
 use Rattle.book_laws.specs.Seen.{Seen, acted, seenCommitted, seenFull}
-use Rattle.book_laws.specs.Keeping.{SoundLines}
+use Rattle.book_laws.specs.Keeping.{SoundBook}
 use Rattle.book_laws.proofs.Acts.{freedAt, sweep-acts}
 use Rattle.book_laws.proofs.Committed.{filtered-same}
 use Rattle.book_laws.proofs.Feeding.{sweep-committed, sweep-full}
@@ -164,6 +164,7 @@ module _ (n : ℕ) (some : 1 ≤ n) (s : Areas) (b : Book) (i : OpenInv n s b) (
     log = refl;
     counts = refl;
     stored = refl;
+    origin = refl;
     lines = refl;
     stable = refl;
     room = omega arith;
@@ -200,13 +201,13 @@ module _ (n : ℕ) (some : 1 ≤ n) (s : Areas) (b : Book) (i : OpenInv n s b) (
   unfolding fullLines filtered runs hasCommit
   full-lines = ap (λ (ls : List Line). line r 0 ∷ ls) (filtered-same (countsFull b′) (countsFull b) (b .lines) (λ l j. refl))
 
-  received-shown : s′ .received ≡ fullPages n b′
+  received-shown : s′ .received ≡ fullPages b′
   unfolding sweptPage appended pagesAfter
-  received-shown = ap (λ (a : List ℕ). effect a r) (i .full) ∙ sym (ap (pagesAfter n) full-lines)
+  received-shown = ap (λ (a : List ℕ). effect a r) (i .full) ∙ sym (ap (pagesAfter (b .origin)) full-lines)
 
   sweep-kept : OpenInv n s′ b′
   unfolding sweptPage appended
-  sweep-kept = let sound : SoundLines n (b′ .lines) = each-cons ok (i .sound) in record {
+  sweep-kept = let sound : SoundBook n b′ = record { origin = i .sound .origin; lines = each-cons ok (i .sound .lines) } in record {
     size = i .size;
     stage = i .stage;
     word = advance-word n some s b i h ph ∙ i .word;
@@ -222,7 +223,7 @@ module _ (n : ℕ) (some : 1 ≤ n) (s : Areas) (b : Book) (i : OpenInv n s b) (
       one = λ t u p e d. i .writers .one t u p (sym (wr-same t p) ∙ e) (sym (wr-same u p) ∙ d);
     };
     base = i .base;
-    log = log-after n some s b (i .base) (i .log) h r (line r 0) s′ b′ appends inv-after machine-after sound open-after cells-after;
+    log = log-after n s b (i .base) (i .log) h r (line r 0) s′ b′ appends inv-after machine-after sound open-after cells-after;
   }
 
   -- the slots freed were taken in the received pages

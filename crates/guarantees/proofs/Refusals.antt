@@ -97,7 +97,7 @@ module _ (n : ℕ) (some : 1 ≤ n) (s : Areas) (b : Book) (i : Inv3 n s b) (f :
 
   recovers : recoverable n (s .stored) (s .log) (stableCount s) ≡ true
   unfolding recoverable committedLines committedOf
-  recovers = rw (f .stored, waits .order, recovered-committed n some s b i (f .sized .stored-len) (f .stored)) (free-all n (committedPages n b′) (firm-stop n (storing 0) b (f .firm) 0 (omega arith)))
+  recovers = rw (f .stored, waits .order, recovered-committed n some s b i (f .sized .stored-len) (f .stored)) (free-all n (committedPages b′) (firm-stop n (storing 0) b (f .firm) 0 (omega arith)))
 
   reopenable : accepted (callReopen s .answer) ≡ true
   unfolding callReopen reopenTests verdict
