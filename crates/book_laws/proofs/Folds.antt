@@ -1,27 +1,20 @@
 -- Objects after the lines that pass a test: which lines and tests matter to an object, and that the pages show it so. Assumes nothing.
-use Prim.Native.Nat.{ℕ, suc, _*_, _≤_}
-use native.Mathlib.Omega.{arith}
-use native.Mathlib.Decide.{decLt}
+use Prim.Native.Nat.{ℕ, suc, _*_}
 use mathlib.Core.Path.{_≡_, refl, sym, ap, _∙_}
 use mathlib.Core.Bool.{Bool, true, false, _&&_, _||_}
 use mathlib.Core.List.{List, [], _∷_}
-use lib.ListN.{length, getD, replicate, length-replicate, getD-replicate, List·getD-eq-default}
-use lib.Dec.{eqb, ltb}
+use lib.ListN.{length}
+use lib.Dec.{eqb}
 use Rattle.words.specs.Tests.{by-bool, clash, or-false-r}
-use Rattle.words.specs.Bits.{bit, bit-none}
-use Rattle.pages.specs.Geometry.{pageOf, slotOf, pageAt, slotAt, pageWords, slotWords}
-use Rattle.pages.specs.Objects.{formattedPages}
+use Rattle.pages.specs.Geometry.{pageWords}
 use Rattle.records.specs.declared.Record.{Record}
 use Rattle.records.specs.Soundness.{recordSound}
-use Rattle.collector.specs.Objects.{blank}
 use Rattle.machine_view.specs.View.{view, names, applied}
-use Rattle.machine_view.proofs.Effects.{obj-ext, view-by, occupy-view}
-use Rattle.page_laws.specs.ViewLaws.{length-taken}
 use Rattle.record_laws.specs.EffectLaws.{length-effect}
 use Rattle.machine_view.proofs.Records.{effect-view}
 use Rattle.book.specs.Lines.{Line, isLeft, filtered, pagesAfter}
 use Rattle.book.specs.Pointers.{sweeps, makesOrFrees}
-use Rattle.book_laws.specs.Seen.{touches, tagged, Seen, first, acted, seen}
+use Rattle.book_laws.specs.Seen.{touches, tagged, Seen, acted, seen}
 use Rattle.book_laws.specs.Striking.{strike, struckAll}
 use Rattle.book_laws.specs.Keeping.{In, here, later}
 

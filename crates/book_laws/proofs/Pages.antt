@@ -1,13 +1,13 @@
 -- The committed state and the full pages show what is seen of their lines; and what lists of counted lines decide by themselves.
 -- Assumes nothing.
-use Prim.Native.Nat.{ℕ, _*_, _≤_}
+use Prim.Native.Nat.{ℕ, _*_}
 use mathlib.Core.Path.{_≡_, refl, sym, ap, _∙_}
 use mathlib.Core.Bool.{Bool}
 use mathlib.Core.List.{List, [], _∷_}
 use lib.ListN.{length}
 use Rattle.words.specs.Tests.{by-bool}
 use Rattle.machine_view.specs.View.{view}
-use Rattle.book.specs.Lines.{Line, filtered, pagesAfter}
+use Rattle.book.specs.Lines.{Line, filtered}
 use Rattle.book.specs.Books.{Stage, Book, countsCommitted, countsFull, committedLines, fullLines, committedPages, fullPages, surviving, stopped}
 use Rattle.book_laws.specs.Seen.{counted, committedOf, seen, seenCommitted, seenFull, made}
 use Rattle.book_laws.specs.Keeping.{SoundBook}

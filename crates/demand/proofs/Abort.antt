@@ -110,7 +110,7 @@ module _ (n : ℕ) (some : 1 ≤ n) (s : Areas) (b : Book) (i : OpenInv n s b) (
       sound = i .log .order;
       size = h .sized .received-len;
       small = small-sound n (s .received) (h .ranged .received-sound);
-      shown = λ x. sym (full-shown n some s b i x) ∙ sym (i .log .inv .full x);
+      shown = λ x. sym (full-shown n s b i x) ∙ sym (i .log .inv .full x);
     };
     room = let e = h .sized .log-len in let r = f .room in omega arith;
     counted = let e = h .sized .counts-len in omega arith;

@@ -51,7 +51,7 @@ module _ (n : ℕ) (some : 1 ≤ n) (s : Areas) (b : Book) (i : OpenInv n s b) (
   pub bound-full : s′ .received ≡ fullPages b′
   unfolding appended
   bound-full = c .still ∙ full-ext n b′ bound-sound (s .received) (h .sized .received-len) (small-sound n (s .received) (h .ranged .received-sound))
-      (λ x. sym (full-shown n some s b i x) ∙ sym (c .full x))
+      (λ x. sym (full-shown n s b i x) ∙ sym (c .full x))
 
   appends : Appends n s b r l s′ b′
   unfolding appended

@@ -50,8 +50,8 @@ pub machine-shows : (n : ℕ) (s : Areas) (b : Book) → Shows (s .work) n (mach
 machine-shows n s b = record { count = refl; locks = refl; tables = refl; pass = refl }
 
 -- the received pages show the full objects
-pub full-shown : (n : ℕ) → 1 ≤ n → (s : Areas) (b : Book) → OpenInv n s b → (x : ℕ) → seenFull b x .object ≡ view (s .received) x
-full-shown n some s b i x = sym (full-view n b (i .sound) x) ∙ ap (λ (a : List ℕ). view a x) (sym (i .full))
+pub full-shown : (n : ℕ) (s : Areas) (b : Book) → OpenInv n s b → (x : ℕ) → seenFull b x .object ≡ view (s .received) x
+full-shown n s b i x = sym (full-view n b (i .sound) x) ∙ ap (λ (a : List ℕ). view a x) (sym (i .full))
 
 -- what a create and a set are not
 record Plain (r : Record) : Type 0 where

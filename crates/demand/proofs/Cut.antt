@@ -54,7 +54,7 @@ module _ (s : Areas) where
 
 pub cut-kept : (n : ℕ) → 1 ≤ n → (s : Areas) (b : Book) → Inv3 n s b → Inv3 n (cut s) (stopped awaiting b)
 unfolding cut
-cut-kept n some s b i = let w = stops n some s b awaiting i in cut-store (record {
+cut-kept n some s b i = let w = stops n s b awaiting i in cut-store (record {
   size = inv-size n s b i;
   stage = refl;
   word = zero-at (length (s .work)) 0;

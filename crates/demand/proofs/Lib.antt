@@ -27,6 +27,7 @@ pub mod Flush
 pub mod Passing
 pub mod Stability
 pub mod Stopping
+pub mod Recovered
 pub mod Cut
 pub mod Reopen
 pub mod Rest

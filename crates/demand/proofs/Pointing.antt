@@ -1,6 +1,6 @@
 -- Reaching and leading in the claim's words, and in the machine's: the same for the pages that lines show. n is the number of pages.
 -- Assumes nothing.
-use Prim.Native.Nat.{ℕ, zero, suc, _*_, _≤_, _<_}
+use Prim.Native.Nat.{ℕ, zero, suc, _≤_, _<_}
 use native.Mathlib.Omega.{arith}
 use native.Mathlib.Decide.{decLe}
 use mathlib.Core.Path.{_≡_, refl, sym, ap, _∙_}
@@ -48,7 +48,7 @@ ref-small : (b : Obj) (f : ℕ) → O.isRef b f ≡ true → f < slotWords
 ref-small b f h = let k = ref-four b f h in omega arith
 
 -- references of the pages that a book starts from are objects of the store
-first-range : (n : ℕ) (a : List ℕ) → Origin n a → (x f : ℕ) → f < 4 → view a x .word f ≤ objectCount n
+pub first-range : (n : ℕ) (a : List ℕ) → Origin n a → (x f : ℕ) → f < 4 → view a x .word f ≤ objectCount n
 unfolding view O.blank isRefAt
 first-range n a o zero f l = omega arith
 first-range n a o (suc k) f l = rw (le-leb 1 (suc k) (omega arith), lt-ltb f slotWords (omega arith)) (elim (decLe (suc k) (objectCount n)) [
@@ -56,12 +56,12 @@ first-range n a o (suc k) f l = rw (le-leb 1 (suc k) (omega arith), lt-ltb f slo
   | no h ↦ rw (List·getD-eq-default a 0 {n = slotAt (pageOf (suc k)) (slotOf (suc k)) f} (let e = o .size in omega arith)) (omega arith)
 ])
 
-put-range : (b : Obj) (g v f m : ℕ) → b .word f ≤ m → (f ≡ g → v ≤ m) → O.put b g v .word f ≤ m
+pub put-range : (b : Obj) (g v f m : ℕ) → b .word f ≤ m → (f ≡ g → v ≤ m) → O.put b g v .word f ≤ m
 unfolding O.put
 put-range b g v f m h k = by-bool (eqb f g) (λ e. rw e (k (eqb-true f g e))) (λ e. rw e h)
 
 -- a sound record writes references of the store
-applied-range : {n : ℕ} (r : Record) → SoundRecord n r → (x : ℕ) (b : Obj) (f : ℕ) → f < 4 → b .word f ≤ objectCount n → applied r x b .word f ≤ objectCount n
+pub applied-range : {n : ℕ} (r : Record) → SoundRecord n r → (x : ℕ) (b : Obj) (f : ℕ) → f < 4 → b .word f ≤ objectCount n → applied r x b .word f ≤ objectCount n
 unfolding applied O.fresh O.blank
 applied-range {n} r h x b f l k = by-bool (names 2 r x)
     (λ e. rw e (omega arith))

@@ -1,6 +1,6 @@
 -- A store with nobody at work and an empty log, whose areas all show the committed state: after formatting, and after the last reopening
 -- step. n is the number of pages. Assumes nothing.
-use Prim.Native.Nat.{ℕ, suc, _*_, _-_, _≤_}
+use Prim.Native.Nat.{ℕ, suc, _-_, _≤_}
 use native.Mathlib.Omega.{arith}
 use mathlib.Core.Path.{_≡_, refl, sym, ap, _∙_}
 use mathlib.Core.Bool.{Bool, false, not}

@@ -1,6 +1,6 @@
 -- What several calls share: choices by the pages that a transaction writes, and areas that show the full objects. n is the number of
 -- pages. Assumes nothing.
-use Prim.Native.Nat.{ℕ, _*_, _≤_}
+use Prim.Native.Nat.{ℕ, _*_}
 use mathlib.Core.Path.{_≡_, sym, ap, _∙_}
 use mathlib.Core.Bool.{Bool}
 use mathlib.Core.List.{List, [], _∷_}

@@ -73,7 +73,7 @@ module _ (n l : ℕ) (some : 1 ≤ n) where
     idle = λ t. refl;
     forgot = λ t x. refl;
     all-stable = refl;
-    whole = whole-of n some (formattedPages n) (formatted-origin n some) (countsCommitted (blank (formattedPages n))) [] (each-nil (λ m. recordSound n (m .entry) ≡ true)) leads;
+    whole = whole-of n (formattedPages n) (formatted-origin n some) (countsCommitted (blank (formattedPages n))) [] (each-nil (λ m. recordSound n (m .entry) ≡ true)) leads;
     leads = leads;
   }
 

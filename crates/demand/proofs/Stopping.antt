@@ -1,6 +1,6 @@
 -- A store whose transactions are stopped, by a cut or by a reopening: what it holds of the book then. n is the number of pages.
 -- Assumes nothing.
-use Prim.Native.Nat.{ℕ, suc, _*_, _-_, _≤_}
+use Prim.Native.Nat.{ℕ, suc, _-_, _≤_}
 use native.Mathlib.Omega.{arith}
 use mathlib.Core.Path.{_≡_, refl, sym, ap, _∙_}
 use mathlib.Core.Bool.{Bool, true, _&&_}
@@ -40,7 +40,7 @@ use Rattle.demand.proofs.State.{stable, OpenInv, Waiting, Inv3, open-st
 use Rattle.demand.proofs.Pointing.{whole-in}
 
 -- no sound record frees the root
-root-kept : {n : ℕ} (r : Record) → SoundRecord n r → (b : Obj) → b .occ ≡ true → applied r root b .occ ≡ true
+pub root-kept : {n : ℕ} (r : Record) → SoundRecord n r → (b : Obj) → b .occ ≡ true → applied r root b .occ ≡ true
 unfolding applied fresh put
 root-kept {n} r h b e = by-bool (names 2 r root) (λ q. rw q refl) (λ q. rw q (by-bool (names 3 r root) (λ d. rw d e) (λ d. rw d (by-bool (names 6 r root)
     (λ k. let z = and-split (eqb (r .kind) 6) (eqb (r .object) root) k in let u = h .uncreate (eqb-true (r .kind) 6 (z .0)) .0 in let e = eqb-true (r .object) root (z .1) in absurd (omega arith))
@@ -62,7 +62,7 @@ root-there n a o c (l ∷ ls) h = let ih = root-there n a o c ls (λ m i. h m (l
 stopped-sound : (n : ℕ) (b : Book) (g : Stage) → SoundBook n b → SoundBook n (stopped g b)
 stopped-sound n b g h = record { origin = h .origin; lines = stop-sound n b (h .lines) }
 
-module _ (n : ℕ) (some : 1 ≤ n) where
+module _ (n : ℕ) where
   -- pointers that lead make a state whole: the root is there
   pub whole-of : (a : List ℕ) → Origin n a → (c : Line → Bool) (ls : List Line) → SoundLines n ls → Leads (pagesAfter a (filtered c ls)) (filtered c ls)
       → Whole (objectCount n) (suc (length ls)) (λ x. seen a c ls x .object) (λ x. seen a c ls x .tag)

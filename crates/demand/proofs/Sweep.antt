@@ -236,7 +236,7 @@ module _ (n : ℕ) (some : 1 ≤ n) (s : Areas) (b : Book) (i : OpenInv n s b) (
       let d : dead x ≡ true = sym (freed x) ∙ rw (p, q, eq-eqb page page refl) e in
       let u : (t : ℕ) → locksOf (s .work) n .wr t (pageOf x) ≡ false = λ t. rw p (unwritten t) in
       let c : view (s .copies) x .occ ≡ true = Bits.and-r _ _ (Bits.and-l _ _ (Bits.and-l _ _ d)) in
-      let f : view (s .received) x ≡ view (s .copies) x = sym (full-shown n some s b i x) ∙ i .collector .agreed .freeR x u ∙ sym (i .collector .agreed .freeC x u) in
+      let f : view (s .received) x ≡ view (s .copies) x = sym (full-shown n s b i x) ∙ i .collector .agreed .freeR x u ∙ sym (i .collector .agreed .freeC x u) in
       let o : occupied (s .received) x ≡ true = sym (view-occ (s .received) x (omega arith)) ∙ ap (λ (v : Obj). v .occ) f ∙ c in
       rw (p, q) at o
 

@@ -9,14 +9,13 @@ use lib.Seq.{getD-set-same, getD-set-other}
 use lib.Dec.{eqb, ltb}
 use borrow.Author.Tests.{ltb-true, eqb-false, ne-eqb}
 use Rattle.words.specs.Tests.{by-bool}
-use Rattle.pages.specs.Geometry.{objectAt, pageOf, slotOf, root, slotWords, pageWords, slotCount, maxPages}
-use Rattle.pages.specs.Objects.{slotWord, wordOf, formattedPages}
+use Rattle.pages.specs.Geometry.{slotWords, pageWords, maxPages}
+use Rattle.pages.specs.Objects.{wordOf, formattedPages}
 use Rattle.pages.specs.Soundness.{areaSound}
-use Rattle.page_laws.specs.SoundFacts.{facts-sound, copied-sound}
+use Rattle.page_laws.specs.SoundFacts.{copied-sound}
 use Rattle.page_laws.specs.ViewLaws.{length-copied}
 use Rattle.record_laws.specs.RecordLaws.{log-sound-records}
 use Rattle.record_laws.specs.EffectLaws.{length-recovered}
-use Rattle.areas.specs.declared.Check.{Check}
 use Rattle.areas.specs.declared.Check.the-variants.{Accept}
 use Rattle.areas.specs.Answers.{accepted, Test, verdict}
 use Rattle.areas.specs.Areas.{Areas, Out, receivedCount, stableCount}
@@ -44,14 +43,9 @@ use Rattle.book.specs.Lines.{pagesAfter, filtered}
 use Rattle.book.specs.Books.{Book, blank, awaiting, storing, committedLines, committedPages, stopped}
 use Rattle.book.specs.Feeding.{fed}
 use Rattle.book.specs.Demand.{Event, call, power, Point, accepts, after, start}
-use Rattle.collector.specs.Objects as O
 use Rattle.collector.specs.State as M
 use Rattle.machine_calls.specs.Tables.{phaseOf}
 use Rattle.records.specs.Records.{setOf, recordWords, maxRecords}
-use Rattle.collector.specs.Objects.{Obj}
-use Rattle.machine_view.proofs.Places.{page-of-at, slot-of-at}
-use Rattle.recovery_proof.proofs.Maps.{small-formatted}
-use Rattle.machine_view.proofs.Effects.{view-occ, view-word}
 use Rattle.book_laws.specs.Seen.{committedOf}
 use Rattle.book_laws.proofs.Sweeps.{sweep-kept}
 use Rattle.demand.proofs.State.{OpenInv, StoringInv, Inv3, open-store, cut-store, reopening-store}

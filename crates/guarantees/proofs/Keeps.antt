@@ -129,7 +129,7 @@ module _ (n : ℕ) (some : 1 ≤ n) (s : Areas) (b : Book) (i : OpenInv n s b) (
       let room = beyond 2 (k .room) in
       let q = setOf t o g (wordOf (s .received) o g) v in
       let hold = held-change (s .log) (receivedCount s) q (long 2 (omega arith) (omega arith)) t (k .txn) refl refl refl refl in
-      let there : occupied (s .received) o ≡ true = sym (view-occ (s .received) o (k .object .low)) ∙ ap (λ (x : Obj). x .occ) (sym (full-shown n some s b i o))
+      let there : occupied (s .received) o ≡ true = sym (view-occ (s .received) o (k .object .low)) ∙ ap (λ (x : Obj). x .occ) (sym (full-shown n s b i o))
       ∙ known-there (machine n s b) (i .collector) t o (kn-is s n (machine n s b) (machine-shows n s b) t o (k .txn) ∙ k .known) in
       added-fine n some s b (adds b t r) q _ j f h (set-tables-within (s .received) (s .work) n t o g v some within (h .ranged .received-sound) (k .txn) (k .object .low) (k .object .top) (k .field))
       (written-sound n (s .received) (h .sized .received-len) (h .ranged .received-sound) o (k .object .low) (k .object .top) g v (k .field) there
@@ -146,7 +146,7 @@ module _ (n : ℕ) (some : 1 ≤ n) (s : Areas) (b : Book) (i : OpenInv n s b) (
   mixed-sound a small e = either-sound n some (s .received) (committedPages b) a (h .ranged .received-sound) committed-sound small e
 
   shown-full : (x : ℕ) → seenFull b x .object ≡ view (s .received) x
-  shown-full x = full-shown n some s b i x
+  shown-full x = full-shown n s b i x
 
   shown-committed : (x : ℕ) → seenCommitted b x .object ≡ view (committedPages b) x
   shown-committed x = sym (committed-view n b (i .sound) x)
