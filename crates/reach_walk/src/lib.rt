@@ -8,7 +8,7 @@ ghost use Rattle.pages.specs.Geometry.{slotWords};
 ghost use Rattle.areas.specs.Ranges.{pagesIn};
 ghost use Rattle.reach.specs.Reaching.{Reached};
 ghost use Rattle.reach_walk.specs.Wholeness.{areaFits, WholeAnswer};
-ghost use Rattle.reach_walk.specs.Walk.{walk, Marked, Entry, Consistent, Followed, FollowedTo, Outcome};
+ghost use Rattle.reach_walk.specs.Walk.{walk, Marked, Consistent, PagesOf, Entry, Followed, FollowedTo, Outcome};
 use areas::Answer;
 use areas::Refusal;
 use page_ops::change;
@@ -36,7 +36,7 @@ fn visit(
     tail: usize,
     x: u32,
 ) -> Step
-    requires { ⌜ Consistent (now pages) n (walk (now marks) (now queue) tail) × Reached (now pages) x ⌝ }
+    requires { ⌜ PagesOf (now pages) n × Consistent (Entry (now pages)) n (walk (now marks) (now queue) tail) × Reached (now pages) x ⌝ }
     ensures { λ r. ⌜ Outcome (now (pages .entry)) n (walk (now (marks .entry)) (now (queue .entry)) tail) (now (marks .exit)) (now (queue .exit)) (λ w. Marked w x) r ⌝ }
 {
     if SLOTS * n < x as usize {
@@ -64,7 +64,7 @@ fn follow_word(
     o: u32,
     f: u32,
 ) -> Step
-    requires { ⌜ Consistent (now pages) n (walk (now marks) (now queue) tail) × Entry (now pages) o × (f < slotWords) ⌝ }
+    requires { ⌜ PagesOf (now pages) n × Consistent (Entry (now pages)) n (walk (now marks) (now queue) tail) × Entry (now pages) o × (f < slotWords) ⌝ }
     ensures { λ r. ⌜ Outcome (now (pages .entry)) n (walk (now (marks .entry)) (now (queue .entry)) tail) (now (marks .exit)) (now (queue .exit)) (λ w. Followed (now (pages .entry)) w o f) r ⌝ }
 {
     if !change::is_ref(pages, o, f) {
@@ -86,7 +86,7 @@ fn follow(
     tail: usize,
     o: u32,
 ) -> Step
-    requires { ⌜ Consistent (now pages) n (walk (now marks) (now queue) tail) × Entry (now pages) o ⌝ }
+    requires { ⌜ PagesOf (now pages) n × Consistent (Entry (now pages)) n (walk (now marks) (now queue) tail) × Entry (now pages) o ⌝ }
     ensures { λ r. ⌜ Outcome (now (pages .entry)) n (walk (now (marks .entry)) (now (queue .entry)) tail) (now (marks .exit)) (now (queue .exit)) (λ w. FollowedTo (now (pages .entry)) w o slotWords) r ⌝ }
 {
     let mut end = tail;
