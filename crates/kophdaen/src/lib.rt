@@ -12,6 +12,7 @@ ghost use Rattle.codes.specs.Codes.{coded};
 use codes::code;
 
 mod held;
+mod whole;
 
 // Makes the root and no other object.
 #[no_mangle]

@@ -1,0 +1,2 @@
+-- What a C function answers where its answer is settled by what holds of it.
+pub mod Wholeness
