@@ -1,0 +1,125 @@
+//! `Held::open` on random disks, against the model's reopening and `whole`; from every store that it opens on, random
+//! calls and cuts, none of which may lead to a store that is not well formed.
+
+use calls::{Call, Side};
+use kophdaen::{Held, NotHeld};
+use model::layout::*;
+use model::{whole, Fault, Model};
+
+use crate::actions::{Action, Filling};
+use crate::generate::{size, Generator, Style};
+use crate::random::Random;
+use crate::rubbish::fill;
+use crate::run::Pair;
+use crate::sides::{Kind, MODEL};
+use crate::whole::joined;
+
+/// What a disk holds, and the room for records.
+struct Disk {
+    stored: Vec<u32>,
+    stable: Vec<u32>,
+    records: usize,
+}
+
+/// Pages that are whole or not, without a log; or pages with a log, sound or damaged; or lengths that do not fit.
+fn disk(random: &mut Random) -> Disk {
+    let (pages, records) = size(random, false);
+    let mut areas = match random.weighted(&[60, 30, 10]) {
+        0 => Areas::zeros(pages, records),
+        1 => fill(Filling::Reopening, random.next(), pages, records),
+        _ => fill(Filling::Damaged, random.next(), pages, records),
+    };
+    if areas.stored[0] == 0 {
+        joined(&mut areas.stored, pages, random);
+    }
+    let mut disk = Disk { stored: areas.stored, stable: areas.log, records };
+    disk.stable.truncate(RECORD_WORDS * areas.counts[STABLE_COUNT] as usize);
+    match random.below(60) {
+        0 => disk.stored.truncate(random.below(PAGE_WORDS * pages)),
+        1 => disk.stable.resize(random.below(RECORD_WORDS * (records + 3)), 0),
+        2 => disk.records = random.pick(&[0, 4097]).unwrap(),
+        _ => {}
+    }
+    disk
+}
+
+/// The same by the model: the areas, or why not.
+fn opened(disk: &Disk) -> Result<Areas, NotHeld> {
+    let mut model = Model::new(disk.stored.len() / PAGE_WORDS, disk.records);
+    let whole_records = disk.stable.len() % RECORD_WORDS == 0;
+    if !whole_records || disk.stable.len() > model.areas.log.len() || model.areas.stored.len() != disk.stored.len()
+    {
+        return Err(NotHeld::Lengths);
+    }
+    model.areas.stored.copy_from_slice(&disk.stored);
+    model.areas.log[..disk.stable.len()].copy_from_slice(&disk.stable);
+    model.areas.counts[STABLE_COUNT] = (disk.stable.len() / RECORD_WORDS) as u32;
+    match model.reopen() {
+        Err(1) => Err(NotHeld::Lengths),
+        Err(_) => Err(NotHeld::Unsound),
+        Ok(_) if whole(&model.areas.received, Fault::None) != Ok(1) => Err(NotHeld::NotWhole),
+        Ok(_) => Ok(model.areas),
+    }
+}
+
+/// Opens a disk by both: the store's areas, or why not; or what differs.
+fn open(disk: &Disk) -> Result<Result<Areas, NotHeld>, String> {
+    let held = Held::open(&disk.stored, &disk.stable, disk.records);
+    let told = held.map(|mut held| (held.audit(), held.into_store().back()));
+    let expected = opened(disk).map(|areas| (true, areas));
+    if told != expected {
+        return Err(format!("opened differently ({:?} and {:?})", told.err(), expected.err()));
+    }
+    Ok(expected.map(|(_, areas)| areas))
+}
+
+/// Calls and cuts from an opened store on: how many calls, or what differs or is not well formed.
+fn go_on(areas: &Areas, mut random: Random) -> Result<u64, String> {
+    let audit = Action::from(Call::LockRead(16, 0));
+    let crowd = random.between(1, 4);
+    let style = Style { cuts: 6, damage: 0, lengths: 0, wild: 40, crowd, filling: None };
+    let length = random.between(20, 400);
+    let mut generator = Generator::new(random, style, areas.pages()).going_on();
+    let mut pair = Pair::new(Kind::Library, MODEL, areas.pages(), areas.log.len() / RECORD_WORDS);
+    pair.load(areas);
+    let mut calls = 0;
+    for _ in 0..length {
+        let action = generator.next(&pair.areas());
+        pair.step(&action).map_err(|what| format!("{action}: {what}"))?;
+        calls += u64::from(action.call().is_some());
+        if pair.step(&audit)? >> 32 == 1 {
+            return Err(format!("{action}: not well formed after it"));
+        }
+    }
+    Ok(calls)
+}
+
+pub fn run(seed: u64, calls: u64) -> bool {
+    let mut disks = Random::new(seed);
+    let (mut made, mut held) = (0, 0);
+    let mut not = [0; 3];
+    while made < calls {
+        let mut random = Random::new(disks.next());
+        let disk = disk(&mut random);
+        let went = match open(&disk) {
+            Ok(Ok(areas)) => go_on(&areas, random).map(|calls| {
+                held += 1;
+                made += calls;
+            }),
+            Ok(Err(why)) => {
+                not[why as usize] += 1;
+                Ok(())
+            }
+            Err(what) => Err(what),
+        };
+        if let Err(what) = went {
+            println!("open: {what}");
+            println!("stored {:?}, stable {:?}, L = {}", disk.stored, disk.stable, disk.records);
+            return false;
+        }
+    }
+    let [lengths, unsound, not_whole] = not;
+    print!("open: {held} disks held, {not_whole} not whole, {unsound} unsound, {lengths} of wrong lengths; ");
+    println!("{made} calls, no difference, all well formed");
+    true
+}
