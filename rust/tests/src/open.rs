@@ -1,5 +1,5 @@
 //! `Held::open` on random disks, against the model's reopening and `whole`; from every store that it opens on, random
-//! calls and cuts, none of which may lead to a store that is not well formed.
+//! calls and cuts. None of them may lead to a store that is not well formed, or to a disk that does not open.
 
 use calls::{Call, Side};
 use kophdaen::{Held, NotHeld};
@@ -21,29 +21,37 @@ struct Disk {
     records: usize,
 }
 
-/// Pages that are whole or not, without a log; or pages with a log, sound or damaged; or lengths that do not fit.
-fn disk(random: &mut Random) -> Disk {
-    let (pages, records) = size(random, false);
-    let mut areas = match random.weighted(&[60, 30, 10]) {
-        0 => Areas::zeros(pages, records),
-        1 => fill(Filling::Reopening, random.next(), pages, records),
-        _ => fill(Filling::Damaged, random.next(), pages, records),
-    };
-    if areas.stored[0] == 0 {
-        joined(&mut areas.stored, pages, random);
+impl Disk {
+    /// Pages that are whole or not, without a log; or pages with a log, sound or damaged; or lengths that do not fit.
+    fn new(random: &mut Random) -> Disk {
+        let (pages, records) = size(random, false);
+        let mut areas = match random.weighted(&[60, 30, 10]) {
+            0 => Areas::zeros(pages, records),
+            1 => fill(Filling::Reopening, random.next(), pages, records),
+            _ => fill(Filling::Damaged, random.next(), pages, records),
+        };
+        if areas.stored[0] == 0 {
+            joined(&mut areas.stored, pages, random);
+        }
+        let mut disk = Disk { stored: Vec::new(), stable: Vec::new(), records };
+        disk.leave(areas);
+        match random.below(60) {
+            0 => disk.stored.truncate(random.below(PAGE_WORDS * pages)),
+            1 => disk.stable.resize(random.below(RECORD_WORDS * (records + 3)), 0),
+            2 => disk.records = random.pick(&[0, 4097]).unwrap(),
+            _ => {}
+        }
+        disk
     }
-    let mut disk = Disk { stored: areas.stored, stable: areas.log, records };
-    disk.stable.truncate(RECORD_WORDS * areas.counts[STABLE_COUNT] as usize);
-    match random.below(60) {
-        0 => disk.stored.truncate(random.below(PAGE_WORDS * pages)),
-        1 => disk.stable.resize(random.below(RECORD_WORDS * (records + 3)), 0),
-        2 => disk.records = random.pick(&[0, 4097]).unwrap(),
-        _ => {}
+
+    /// What is stable of these areas.
+    fn leave(&mut self, areas: Areas) {
+        self.stable = areas.log[..RECORD_WORDS * areas.stable_count()].to_vec();
+        self.stored = areas.stored;
     }
-    disk
 }
 
-/// The same by the model: the areas, or why not.
+/// The store of a disk by the model: the areas, or why not.
 fn opened(disk: &Disk) -> Result<Areas, NotHeld> {
     let mut model = Model::new(disk.stored.len() / PAGE_WORDS, disk.records);
     let whole_records = disk.stable.len() % RECORD_WORDS == 0;
@@ -73,17 +81,17 @@ fn open(disk: &Disk) -> Result<Result<Areas, NotHeld>, String> {
     Ok(expected.map(|(_, areas)| areas))
 }
 
-/// Calls and cuts from an opened store on: how many calls, or what differs or is not well formed.
-fn go_on(areas: &Areas, mut random: Random) -> Result<u64, String> {
+/// Calls and cuts from an opened store on: what the last of them leaves, and how many calls; or what differs or is not
+/// well formed.
+fn go_on(areas: &Areas, random: &mut Random) -> Result<(Areas, u64), String> {
     let audit = Action::from(Call::LockRead(16, 0));
     let crowd = random.between(1, 4);
     let style = Style { cuts: 6, damage: 0, lengths: 0, wild: 40, crowd, filling: None };
-    let length = random.between(20, 400);
-    let mut generator = Generator::new(random, style, areas.pages()).going_on();
+    let mut generator = Generator::new(Random::new(random.next()), style, areas.pages()).going_on();
     let mut pair = Pair::new(Kind::Library, MODEL, areas.pages(), areas.log.len() / RECORD_WORDS);
     pair.load(areas);
     let mut calls = 0;
-    for _ in 0..length {
+    for _ in 0..random.between(20, 400) {
         let action = generator.next(&pair.areas());
         pair.step(&action).map_err(|what| format!("{action}: {what}"))?;
         calls += u64::from(action.call().is_some());
@@ -91,35 +99,56 @@ fn go_on(areas: &Areas, mut random: Random) -> Result<u64, String> {
             return Err(format!("{action}: not well formed after it"));
         }
     }
-    Ok(calls)
+    Ok((pair.areas(), calls))
+}
+
+/// What became of the disks.
+#[derive(Default)]
+struct Opened {
+    held: u64,
+    calls: u64,
+    /// By the reason.
+    not: [u64; 3],
+}
+
+impl Opened {
+    /// Opens the disk, and each disk that calls and cuts leave from there on.
+    fn serve(&mut self, disk: &mut Disk, random: &mut Random) -> Result<(), String> {
+        let mut opened = open(disk)?;
+        if let Err(why) = opened {
+            self.not[why as usize] += 1;
+        }
+        while let Ok(areas) = opened {
+            let (after, calls) = go_on(&areas, random)?;
+            self.held += 1;
+            self.calls += calls;
+            if random.percent(40) {
+                break;
+            }
+            disk.leave(after);
+            opened = open(disk)?;
+            if let Err(why) = opened {
+                return Err(format!("{why:?}: a disk that calls and cuts led to"));
+            }
+        }
+        Ok(())
+    }
 }
 
 pub fn run(seed: u64, calls: u64) -> bool {
     let mut disks = Random::new(seed);
-    let (mut made, mut held) = (0, 0);
-    let mut not = [0; 3];
-    while made < calls {
+    let mut opened = Opened::default();
+    while opened.calls < calls {
         let mut random = Random::new(disks.next());
-        let disk = disk(&mut random);
-        let went = match open(&disk) {
-            Ok(Ok(areas)) => go_on(&areas, random).map(|calls| {
-                held += 1;
-                made += calls;
-            }),
-            Ok(Err(why)) => {
-                not[why as usize] += 1;
-                Ok(())
-            }
-            Err(what) => Err(what),
-        };
-        if let Err(what) = went {
+        let mut disk = Disk::new(&mut random);
+        if let Err(what) = opened.serve(&mut disk, &mut random) {
             println!("open: {what}");
             println!("stored {:?}, stable {:?}, L = {}", disk.stored, disk.stable, disk.records);
             return false;
         }
     }
-    let [lengths, unsound, not_whole] = not;
+    let Opened { held, calls, not: [lengths, unsound, not_whole] } = opened;
     print!("open: {held} disks held, {not_whole} not whole, {unsound} unsound, {lengths} of wrong lengths; ");
-    println!("{made} calls, no difference, all well formed");
+    println!("{calls} calls, no difference, all well formed");
     true
 }
