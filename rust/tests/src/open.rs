@@ -2,7 +2,7 @@
 //! calls and cuts. None of them may lead to a store that is not well formed, or to a disk that does not open.
 
 use calls::{Call, Side};
-use kophdaen::{Held, NotHeld};
+use kophdaen::{Held, NotHeld, OBJECT_WORDS};
 use model::layout::*;
 use model::{whole, Fault, Model};
 
@@ -70,15 +70,31 @@ fn opened(disk: &Disk) -> Result<Areas, NotHeld> {
     }
 }
 
+/// What an opened store answers to a short buffer, a long image, a call after a cut and the reopening then; whether it is
+/// well formed, and its areas.
+fn tried(mut held: Held) -> (Vec<u32>, bool, Areas) {
+    let mut answers = vec![held.read(&mut [0; OBJECT_WORDS - 1], 0, ROOT), held.flush(&[0; PAGE_WORDS + 1], 0, 0)];
+    held.cut();
+    answers.extend([held.begin(0), held.reopen()]);
+    let numbers = answers.iter().map(|answer| answer.number).collect();
+    (numbers, held.audit(), held.into_store().back())
+}
+
 /// Opens a disk by both: the store's areas, or why not; or what differs.
 fn open(disk: &Disk) -> Result<Result<Areas, NotHeld>, String> {
-    let held = Held::open(&disk.stored, &disk.stable, disk.records);
-    let told = held.map(|mut held| (held.audit(), held.into_store().back()));
-    let expected = opened(disk).map(|areas| (true, areas));
-    if told != expected {
+    let told = Held::open(&disk.stored, &disk.stable, disk.records).map(tried);
+    let expected = opened(disk);
+    if told != expected.clone().map(|areas| (vec![1, 1, 2, 0], true, areas)) {
         return Err(format!("opened differently ({:?} and {:?})", told.err(), expected.err()));
     }
-    Ok(expected.map(|(_, areas)| areas))
+    Ok(expected)
+}
+
+/// Whether both format a store of this size, or both do not.
+fn formats_alike(pages: usize, records: usize) -> bool {
+    let mut model = Model::new(pages, records);
+    let expected = model.format().map(|_| model.areas).map_err(|_| NotHeld::Lengths);
+    Held::format(pages, records).map(|held| held.into_store().back()) == expected
 }
 
 /// Calls and cuts from an opened store on: what the last of them leaves, and how many calls; or what differs or is not
@@ -136,6 +152,11 @@ impl Opened {
 }
 
 pub fn run(seed: u64, calls: u64) -> bool {
+    let sizes = [(0, 1), (1, 0), (1, 1), (256, 4096), (257, 1), (1, 4097)];
+    if let Some(size) = sizes.into_iter().find(|&(pages, records)| !formats_alike(pages, records)) {
+        println!("open: {size:?} pages and records are formatted differently");
+        return false;
+    }
     let mut disks = Random::new(seed);
     let mut opened = Opened::default();
     while opened.calls < calls {

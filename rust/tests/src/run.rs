@@ -125,14 +125,14 @@ impl Pair {
 
     /// The call, made while an area of every side has so many words.
     fn resized(&mut self, area: Area, len: usize, request: &Request) -> Result<u64, String> {
-        let cut = |side: &mut dyn Side| {
+        let cut = |side: &mut (dyn Side + 'static)| {
             let words = side.area_mut(area);
             let tail = words.get(len..).unwrap_or(&[]).to_vec();
             let before = words.len();
             words.resize(len, 0);
             (before, tail)
         };
-        let whole: Vec<(usize, Vec<u32>)> = self.sides().map(|side| cut(side)).collect();
+        let whole: Vec<(usize, Vec<u32>)> = self.sides().map(cut).collect();
         let answer = self.call(request)?;
         for (side, (before, tail)) in self.sides().zip(whole) {
             let words = side.area_mut(area);
