@@ -1,14 +1,14 @@
 //! The table of calls: everything that is said of a call by its name.
 
-use kophdaen::Store;
+use kophdaen::{Held, Store};
 use model::{coded, Model};
 
 use crate::Lent;
 
 /// A line has the variant with its numbers, the name that the bench program gives the call, and the method
-/// that both sides have for it, with what it is lent before the numbers.
+/// that both sides have for it, with what it is lent before the numbers; then `lent` if it has no held form.
 macro_rules! calls {
-    ($( $call:ident $(($($number:ident),+))?, $name:literal, $method:ident $([$lent:ident])?; )*) => {
+    ($( $call:ident $(($($number:ident),+))?, $name:literal, $method:ident $([$lent:ident])? $(, $form:ident)?; )*) => {
         #[derive(Clone, Copy, Debug, PartialEq, Eq)]
         pub enum Call {
             $( $call $(($(calls!(@u32 $number)),+))?, )*
@@ -38,6 +38,14 @@ macro_rules! calls {
                 answer.code()
             }
 
+            /// .. in its held form, if it has one.
+            pub fn on_held(self, held: &mut Held, lent: Lent) -> Option<u64> {
+                match self {
+                    $( Call::$call $(($($number),+))? =>
+                        calls!(@held [$($form)?] held.$method($(lent.$lent,)? $($($number),+)?)), )*
+                }
+            }
+
             /// .. and on the model.
             pub fn on_model(self, model: &mut Model, lent: Lent) -> u64 {
                 coded(match self {
@@ -47,10 +55,12 @@ macro_rules! calls {
         }
     };
     (@u32 $number:ident) => { u32 };
+    (@held [] $made:expr) => { Some($made.code()) };
+    (@held [lent] $made:expr) => { None };
 }
 
 calls! {
-    Format, "format", format;
+    Format, "format", format, lent;
     Begin(t), "begin", begin;
     Commit(t), "commit", commit;
     Abort(t), "abort", abort;
@@ -65,6 +75,6 @@ calls! {
     EmptyLog, "empty", empty_log;
     StartPass, "pass", start_pass;
     PassStep, "step", pass_step;
-    Reopen, "reopen", reopen;
+    Reopen, "reopen", reopen, lent;
     ReopenStep, "restep", reopen_step;
 }
