@@ -1,19 +1,21 @@
 -- Working tables after a change of one word or of a run of words. Assumes nothing.
 use Prim.Native.Nat.{ℕ, zero, suc, _+_, _<_, _≤_}
-use mathlib.Core.Path.{_≡_, sym, _∙_}
+use mathlib.Core.Path.{_≡_, refl, sym, ap, _∙_}
 use mathlib.Core.Bool.{true, false, _&&_}
 use mathlib.Core.List.{List}
 use lib.ListN.{getD, set}
 use lib.Dec.{ltb}
 use native.Mathlib.Omega.{arith}
 use borrow.Author.Tests.{ltb-true, eq-eqb, ne-eqb}
-use Rattle.words.specs.Tests.{and-split, and-t, and-f, if-t, if-f}
+use Rattle.words.specs.Tests.{by-bool, and-split, and-t, and-f, if-t, if-f}
+use Rattle.words.specs.Bits.{bit, withBit, withoutBit, without-same}
 use Rattle.words.specs.Spans.{over, over-next}
 use Rattle.pages.specs.Geometry.{maxPages, objectCount, isObject}
 use Rattle.page_laws.specs.Places.{object-range}
 use Rattle.records.specs.Records.{txnCount}
 use Rattle.areas.specs.Layout.{colourAt}
-use Rattle.areas.specs.Tables.{isTxn, at, passFirst, mayMark, coloured, greyed}
+use Rattle.areas.specs.Tables.{isTxn, at, flag, passRuns, passFirst, mayMark, coloured, greyed}
+use Rattle.calls.specs.Transactions.{leaves, endedEntry, endedEntries}
 
 -- one more turn of a loop over a run of words
 pub over-turn : (f : ℕ → ℕ) (w : List ℕ) (a k : ℕ) (x : List ℕ) (v : ℕ) → x ≡ over f w a k → v ≡ f (getD x (a + k) 0) → set x (a + k) v ≡ over f w a (k + 1)
@@ -27,6 +29,31 @@ over-join f w a m (suc k) =
     let e : m + suc k ≡ suc (m + k) = omega arith in
     let d : a + m + k ≡ a + (m + k) = omega arith in
     rw (e, over, over-join f w a m k, d)
+
+-- t leaves a mask, and where it was in it while a pass runs the flag stands for it
+module _ (m t : ℕ) where
+  pub entry-left : withoutBit m t ≡ endedEntry false t m
+  unfolding withoutBit
+  entry-left = by-bool (bit m t) (λ e. rw e) (λ e. rw e)
+
+  pub entry-kept : (x : ℕ) → x ≡ withoutBit m t → x ≡ m → x ≡ endedEntry true t m
+  entry-kept x e k = k ∙ sym (if-f _ _ _ (ap (λ (y : ℕ). bit y t) (sym k ∙ e) ∙ without-same m t))
+
+  pub entry-flagged : (x y : ℕ) → x ≡ withoutBit m t → (x ≡ m → ⊥) → y ≡ withBit x flag → y ≡ endedEntry true t m
+  unfolding withoutBit
+  entry-flagged x y e k f = f ∙ by-bool (bit m t) (λ b. rw (e, b)) (λ b. absurd (k (rw b at e)))
+
+-- the same of a run of masks
+over-same : (f g : ℕ → ℕ) → ((m : ℕ) → f m ≡ g m) → (w : List ℕ) (a k : ℕ) → over f w a k ≡ over g w a k
+unfolding over
+over-same f g h w a zero = refl
+over-same f g h w a (suc k) = rw (over-same f g h w a k, h)
+
+pub entries-left : (w : List ℕ) (a k t : ℕ) (x : List ℕ) → passRuns w ≡ false → x ≡ leaves t w a k → x ≡ endedEntries t w a k
+entries-left w a k t x idle e = e ∙ rw idle (over-same _ _ (λ m. entry-left m t) w a k)
+
+pub entries-run : (w : List ℕ) (a k t : ℕ) (x : List ℕ) → passRuns w ≡ true → x ≡ over (endedEntry true t) w a k → x ≡ endedEntries t w a k
+entries-run w a k t x runs e = e ∙ rw runs
 
 -- what a pass may mark is an object
 pub mark-facts : (w : List ℕ) (n o : ℕ) → mayMark w n o ≡ true → (1 ≤ o) × (o ≤ objectCount n)

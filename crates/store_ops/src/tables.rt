@@ -1,4 +1,5 @@
 ghost use mathlib.Core.Path.{_≡_};
+ghost use mathlib.Core.Bool.{true};
 ghost use Prim.Native.Nat.{_+_, _*_, _<_, _≤_};
 ghost use lib.ListN.{length};
 ghost use Rattle.pages.specs.Geometry.{maxPages, isObject};
@@ -43,30 +44,31 @@ pub fn leave_all(w: &mut [u32], a: usize, k: usize, t: u32)
     }
 }
 
-// A mask of the PRT or the COT once t has ended: t leaves it, and where a pass runs the flag stands for it.
-fn ended_entry(m: u32, t: u32, runs: bool) -> u32
+// A mask of the PRT or the COT once t has ended while a pass runs: the flag stands for t.
+fn flagged_entry(m: u32, t: u32) -> u32
     requires { ⌜ t < 32 ⌝ }
-    ensures { λ r. ⌜ r ≡ endedEntry runs t m ⌝ }
+    ensures { λ r. ⌜ r ≡ endedEntry true t m ⌝ }
 {
-    if !words::has_bit(m, t as usize) {
-        return m;
-    }
     let left = bits::without_bit(m, t as usize);
-    if runs {
-        bits::with_bit(left, layout::FLAG)
-    } else {
+    if left == m {
         left
+    } else {
+        bits::with_bit(left, layout::FLAG)
     }
 }
 
-// The same of each of the k masks from word a.
+// The k masks of the PRT or the COT from word a once t has ended. Where no pass runs t leaves them as it leaves the others.
 pub fn end_entries(w: &mut [u32], a: usize, k: usize, t: u32)
     requires { ⌜ (phaseAt < length (now w)) × (a + k ≤ length (now w)) × (t < 32) ⌝ }
     ensures { λ _. ⌜ now (w .exit) ≡ endedEntries t (now (w .entry)) a k ⌝ }
 {
     let runs = w[layout::PHASE_AT] != 0;
+    if !runs {
+        leave_all(w, a, k, t);
+        return;
+    }
     for j in 0..k {
-        w[a + j] = ended_entry(w[a + j], t, runs);
+        w[a + j] = flagged_entry(w[a + j], t);
     }
 }
 
@@ -91,7 +93,7 @@ pub fn is_object(n: usize, o: u32) -> bool
     requires { ⌜ n ≤ maxPages ⌝ }
     ensures { λ r. ⌜ r ≡ isObject n o ⌝ }
 {
-    (1 <= o) & (o as usize <= SLOTS * n)
+    (1 <= o) & (o <= (SLOTS * n) as u32)
 }
 
 // Whether t knows o; what is no object of n pages is never known.

@@ -1,29 +1,36 @@
 use borrow.Author.Needs.{needs}
+use borrow.Author.Tests.{not-true, not-false}
 use native.Mathlib.Omega.{arith}
 use Prim.Native.Nat.{_≤_, _-_}
+use mathlib.Core.Bool.{true}
 use mathlib.Core.Path.{_≡_, refl}
 use lib.ListN.{length, length-set}
 use Rattle.words.specs.Spans.{over}
 use Rattle.calls.specs.Transactions.{endedEntry}
-use Rattle.store_ops.specs.Tables.{over-turn}
+use Rattle.store_ops.specs.Tables.{over-turn, entries-left, entries-run}
 use Rattle.store_ops.proofs.tables.end_entries.Statement.{statement}
 use Rattle.store_ops.proofs.tables.end_entries.Tie as tie
 
 abbrev Inv-loop : tie.InvT-loop
-Inv-loop w₀ a k t runs j₀ w j = (j ≤ k) × (length w ≡ length w₀) × (w ≡ over (endedEntry runs t) w₀ a j)
+Inv-loop w₀ a k t runs j₀ w j = (j ≤ k) × (length w ≡ length w₀) × (w ≡ over (endedEntry true t) w₀ a j)
 
 abbrev μ-loop : tie.MeasureT-loop
 μ-loop w₀ a k t runs j₀ w j = k - j
+
+returns : tie.Need-returns Inv-loop μ-loop
+returns c = entries-left _ _ _ _ _ (not-true _ (c .before .before .before .before .if1 .taken)) (c .before .before .leave-all .ensures)
 
 loop-holds : tie.Need-loop-holds Inv-loop μ-loop
 unfolding over
 loop-holds c = (omega arith, refl, refl)
 
 loop-again : tie.Need-loop-again Inv-loop μ-loop
-loop-again c = (omega arith, simp length-set (c .before .before .before .loop .inv .1), over-turn _ _ _ _ _ _ (c .before .before .before .loop .inv .2) (c .ended-entry .ensures))
+loop-again c = (omega arith, simp length-set (c .before .before .before .loop .inv .1), over-turn _ _ _ _ _ _ (c .before .before .before .loop .inv .2) (c .flagged-entry .ensures))
 
-returns : tie.Need-returns Inv-loop μ-loop
-returns c = let e : c .before .loop .j ≡ c .before .before .before .before .args .k = omega arith in rw e at (c .before .loop .inv .2)
+returns-2 : tie.Need-returns-2 Inv-loop μ-loop
+returns-2 c =
+    let e : c .before .loop .j ≡ c .before .before .before .before .before .args .k = omega arith in
+    entries-run _ _ _ _ _ (not-false _ (c .before .before .if1 .left)) (rw e at (c .before .loop .inv .2))
 
 pub end-entries-spec : {M : Type 1} → statement M
 end-entries-spec =
@@ -32,6 +39,9 @@ end-entries-spec =
     Inv-loop
     μ-loop
     (λ c. search needs)
+    (λ c κs. search needs)
+    (λ c. search needs)
+    returns
     loop-holds
     (λ c. search needs)
     (λ c. search needs)
@@ -44,4 +54,4 @@ end-entries-spec =
     (λ c. search needs)
     loop-again
     (λ c. search needs)
-    returns)
+    returns-2)
