@@ -142,7 +142,8 @@ uint64_t kophdaen_reopen_step(
 
 /* Whether every object that the root reaches is occupied, in one page area: stored, copies or
  * received. Reaches: the root, and what words 0 to 3 of a reached object name, where not 0; an object
- * above 16 * P is not occupied. Answers 1 where the length is not 129 * P. Value: 1 if so, else 0. */
+ * above 16 * P is not occupied. Answers 1 where the length is not 129 * P. Takes 33 kB of stack.
+ * Value: 1 if so, else 0. */
 uint64_t kophdaen_whole(const uint32_t *pages, size_t pages_words);
 
 /* Held calls: kophdaen_held_NAME is kophdaen_NAME, the same answer and the same words, but does not
