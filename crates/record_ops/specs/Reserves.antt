@@ -112,7 +112,7 @@ walk-done g mask c i s l e w = record {
 }
 
 -- the changes of t that are left, of a walk to the first record
-pub walked-left : (w g : List ℕ) (mask c s t m : ℕ) → bit mask t ≡ true → Walked g mask c 0 s t m → if (bit s t) 0 m ≡ length (changesLeft w g c t)
+walked-left : (w g : List ℕ) (mask c s t m : ℕ) → bit mask t ≡ true → Walked g mask c 0 s t m → if (bit s t) 0 m ≡ length (changesLeft w g c t)
 unfolding changesLeft any
 walked-left w g mask c s t m b k = by-bool (bit s t)
     (λ e. rw (e, sym (k .sought e .0)))

@@ -1,16 +1,18 @@
 -- Working tables after a change of one word or of a run of words. Assumes nothing.
-use Prim.Native.Nat.{ℕ, zero, suc, _+_, _<_, _≤_}
+use Prim.Native.Nat.{ℕ, zero, suc, _+_, _^_, _<_, _≤_}
 use mathlib.Core.Path.{_≡_, refl, sym, ap, _∙_}
 use mathlib.Core.Bool.{true, false, _&&_}
 use mathlib.Core.List.{List}
 use lib.ListN.{getD, set}
-use lib.Dec.{ltb}
+use lib.Bits.{bitOr, or-zero-r}
+use lib.Dec.{ltb, eqb}
 use native.Mathlib.Omega.{arith}
 use borrow.Author.Tests.{ltb-true, eq-eqb, ne-eqb}
-use Rattle.words.specs.Tests.{by-bool, and-split, and-t, and-f, if-t, if-f}
-use Rattle.words.specs.Bits.{bit, withBit, withoutBit, without-same}
+use Rattle.words.specs.Tests.{if, by-bool, clash, and-split, and-t, and-f, if-t, if-f}
+use Rattle.words.specs.Bits.{bit, withoutBit, without-same}
 use Rattle.words.specs.Spans.{over, over-next}
 use Rattle.pages.specs.Geometry.{maxPages, objectCount, isObject}
+use Rattle.page_laws.specs.BitLaws.{or-bit}
 use Rattle.page_laws.specs.Places.{object-range}
 use Rattle.records.specs.Records.{txnCount}
 use Rattle.areas.specs.Layout.{colourAt}
@@ -36,12 +38,12 @@ module _ (m t : ℕ) where
   unfolding withoutBit
   entry-left = by-bool (bit m t) (λ e. rw e) (λ e. rw e)
 
-  pub entry-kept : (x : ℕ) → x ≡ withoutBit m t → x ≡ m → x ≡ endedEntry true t m
-  entry-kept x e k = k ∙ sym (if-f _ _ _ (ap (λ (y : ℕ). bit y t) (sym k ∙ e) ∙ without-same m t))
-
-  pub entry-flagged : (x y : ℕ) → x ≡ withoutBit m t → (x ≡ m → ⊥) → y ≡ withBit x flag → y ≡ endedEntry true t m
+  -- f: the flag, or nothing where the mask without t, x, is the mask
+  pub entry-flagged : (x f : ℕ) → x ≡ withoutBit m t → f ≡ if (eqb x m) 0 (2 ^ flag) → bitOr x f ≡ endedEntry true t m
   unfolding withoutBit
-  entry-flagged x y e k f = f ∙ by-bool (bit m t) (λ b. rw (e, b)) (λ b. absurd (k (rw b at e)))
+  entry-flagged x f e k = by-bool (bit m t)
+      (λ b. rw (k, ne-eqb x m (λ z. clash b (ap (λ (y : ℕ). bit y t) (sym z ∙ e) ∙ without-same m t)), b) (or-bit flag x ∙ rw e (rw b)))
+      (λ b. let z : x ≡ m = rw b at e in rw (k, eq-eqb x m z, b) (or-zero-r x ∙ z))
 
 -- the same of a run of masks
 over-same : (f g : ℕ → ℕ) → ((m : ℕ) → f m ≡ g m) → (w : List ℕ) (a k : ℕ) → over f w a k ≡ over g w a k

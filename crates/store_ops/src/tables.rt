@@ -1,10 +1,12 @@
 ghost use mathlib.Core.Path.{_≡_};
 ghost use mathlib.Core.Bool.{true};
-ghost use Prim.Native.Nat.{_+_, _*_, _<_, _≤_};
+ghost use Prim.Native.Nat.{_+_, _*_, _^_, _<_, _≤_};
+ghost use lib.Dec.{eqb};
 ghost use lib.ListN.{length};
+ghost use Rattle.words.specs.Tests.{if};
 ghost use Rattle.pages.specs.Geometry.{maxPages, isObject};
 ghost use Rattle.areas.specs.Layout.{HasTables, phaseAt};
-ghost use Rattle.areas.specs.Tables.{has, gain, lose, canRead, canWrite, knows, passFirst, passEnd, mayMark, greyed};
+ghost use Rattle.areas.specs.Tables.{flag, has, gain, lose, canRead, canWrite, knows, passFirst, passEnd, mayMark, greyed};
 ghost use Rattle.calls.specs.Transactions.{leaves, endedEntry, endedEntries};
 use areas::layout;
 use bit_ops::bits;
@@ -44,17 +46,24 @@ pub fn leave_all(w: &mut [u32], a: usize, k: usize, t: u32)
     }
 }
 
+// The flag where the mask was another with t in it, else 0: a word to join, so that a run of masks needs no branch.
+fn flag_for(left: u32, m: u32) -> u32
+    ensures { λ r. ⌜ r ≡ if (eqb left m) 0 (2 ^ flag) ⌝ }
+{
+    if left == m {
+        0
+    } else {
+        bits::mask_of(layout::FLAG)
+    }
+}
+
 // A mask of the PRT or the COT once t has ended while a pass runs: the flag stands for t.
 fn flagged_entry(m: u32, t: u32) -> u32
     requires { ⌜ t < 32 ⌝ }
     ensures { λ r. ⌜ r ≡ endedEntry true t m ⌝ }
 {
     let left = bits::without_bit(m, t as usize);
-    if left == m {
-        left
-    } else {
-        bits::with_bit(left, layout::FLAG)
-    }
+    left | flag_for(left, m)
 }
 
 // The k masks of the PRT or the COT from word a once t has ended. Where no pass runs t leaves them as it leaves the others.
