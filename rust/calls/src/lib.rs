@@ -5,7 +5,7 @@
 mod sides;
 mod table;
 
-pub use sides::Side;
+pub use sides::{Server, Side};
 pub use table::{Call, NAMES};
 
 /// What a call may be lent beside the areas: read takes the buffer, flush the image.
