@@ -1,4 +1,5 @@
-//! Times the proved library, lent and held, the model, a plain sum and SQLite in one run, and writes docs/BENCHMARKS.md.
+//! Times the proved library, lent and held, the model, a plain sum and SQLite in one run, and writes
+//! docs/BENCHMARKS.md.
 //!
 //!   benchmark DIRECTORY FILE
 //!

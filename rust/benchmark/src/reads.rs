@@ -21,7 +21,8 @@ const CALLS: [(&str, &str, &str, &str); 17] = [
     ),
     (
         "abort",
-        "4 words; of each record since t's begin 2, 2 and 6; P masks; 129 for each page that t writes; 51 × P masks",
+        "4 words; of each record since t's begin 2, 2 and 6; P masks; 129 for each page that t writes; \
+         51 × P masks",
         "for each change a record and what it changes; those pages' copies; 51 × P masks; a record; 2 words",
         "11: a record for each change and one to end must fit. The changes are undone, newest first; the copies \
          of the pages that t has locked for writing become the received pages; t leaves every mask",

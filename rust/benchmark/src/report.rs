@@ -224,7 +224,7 @@ fn rates(workload: &Workload) -> String {
         let costs = [rates.without / rates.with - 1.0, rates.share].map(|cost| format!("{:.1} %", 100.0 * cost));
         line(&mut page, &[&[who.clone(), sync][..], &speeds[..], &costs[..]].concat());
     }
-    page += "\nWith the collector, as many times as many transactions as SQLite where both wait alike for the disk:\n\n";
+    page += "\nTransactions with the collector over those of SQLite, where both wait alike for the disk:\n\n";
     head(&mut page, &["SQLite", "held", "lent"].map(String::from));
     for against in workload.against() {
         let times = against.own.map(|(_, own)| format!("{:.2}", own / against.rate));
