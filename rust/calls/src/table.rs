@@ -30,6 +30,13 @@ macro_rules! calls {
                 }
             }
 
+            /// Whether it has a held form.
+            pub fn can_be_held(self) -> bool {
+                match self {
+                    $( Call::$call { .. } => calls!(@has [$($form)?]), )*
+                }
+            }
+
             /// Makes the call on the library; the answer as the C functions code it.
             pub fn on_library(self, store: &mut Store, lent: Lent) -> u64 {
                 let answer = match self {
@@ -55,6 +62,8 @@ macro_rules! calls {
         }
     };
     (@u32 $number:ident) => { u32 };
+    (@has []) => { true };
+    (@has [lent]) => { false };
     (@held [] $made:expr) => { Some($made.code()) };
     (@held [lent] $made:expr) => { None };
 }

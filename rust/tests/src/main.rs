@@ -124,7 +124,7 @@ pub fn random_lists(
         let mut pair = Pair::new(left, right, pages, records);
         let mut list = List { pages, records, actions: Vec::new() };
         while list.actions.len() < length && made < calls {
-            AREAS.iter().for_each(|&area| lead.of_mut(area).clone_from(pair.left.area(area)));
+            AREAS.iter().for_each(|&area| pair.left.area(area).clone_into(lead.of_mut(area)));
             let action = generator.next(&lead);
             let sweeping = lead.work[PHASE] == SWEEPING;
             list.actions.push(action.clone());

@@ -1,7 +1,7 @@
 //! `Held::open` on random disks, against the model's reopening and `whole`; from every store that it opens on, random
 //! calls and cuts. None of them may lead to a store that is not well formed, or to a disk that does not open.
 
-use calls::{Call, Side};
+use calls::{Call, Server};
 use kophdaen::{Held, NotHeld, OBJECT_WORDS};
 use model::layout::*;
 use model::{whole, Fault, Model};

@@ -94,7 +94,7 @@ impl Pair {
     /// What the left side's areas hold.
     pub fn areas(&self) -> Areas {
         let mut areas = Areas::default();
-        AREAS.iter().for_each(|&area| areas.of_mut(area).clone_from(self.left.area(area)));
+        AREAS.iter().for_each(|&area| self.left.area(area).clone_into(areas.of_mut(area)));
         areas
     }
 
