@@ -21,8 +21,8 @@ abbrev pub soughtNext : ℕ → Record → ℕ
 soughtNext s r = if (eqb (r .kind) 1) (withoutBit s (r .txn)) s
 
 -- how many changes of r's transaction were met, x before r and after it
-abbrev pub metNext : ℕ → Record → ℕ → ℕ
-metNext s r x = if (bit s (r .txn) && (eqb (r .kind) 2 || eqb (r .kind) 3)) (x + 1) x
+abbrev pub metNext : Record → ℕ → ℕ
+metNext r x = if (eqb (r .kind) 2 || eqb (r .kind) 3) (x + 1) x
 
 -- what a walk from record c down to record i, for the last begins of the transactions in a mask, says of t, if s are still sought and
 -- m changes of t were met
@@ -39,10 +39,6 @@ pub record WalkedTo (g : List ℕ) (mask c i s : ℕ) (l : List ℕ) : Type 0 wh
   pub each : (t : ℕ) → t < txnCount → Walked g mask c i s t (getD l t 0)
 
 -- laws
-
--- as the code counts: b, whether r's transaction is sought
-pub met-by : (s : ℕ) (r : Record) (x : ℕ) (b y : Bool) → b ≡ bit s (r .txn) → b && (eqb (r .kind) 2 || eqb (r .kind) 3) ≡ y → if y (x + 1) x ≡ metNext s r x
-met-by s r x b y e h = rw (← h, e)
 
 pub walk-start : (g : List ℕ) (mask c : ℕ) → WalkedTo g mask c c mask (replicate txnCount 0)
 walk-start g mask c = record {
@@ -86,8 +82,8 @@ module _ (g : List ℕ) (mask c i s s′ t m m′ : ℕ) (r : Record) (read : r 
 
 -- the same of all, as the code takes it down: j, the record's number before the step
 pub walk-next : (g : List ℕ) (mask c j i s s′ : ℕ) (l : List ℕ) (x : ℕ) (r : Record) → j ≡ i + 1 → r ≡ recordAt g i → r .txn < txnCount
-    → s′ ≡ soughtNext s r → x ≡ metNext s r (getD l (r .txn) 0) → WalkedTo g mask c j s l → WalkedTo g mask c i s′ (set l (r .txn) x)
-walk-next g mask c j i s s′ l x r place read inside es ex w =
+    → bit s (r .txn) ≡ true → s′ ≡ soughtNext s r → x ≡ metNext r (getD l (r .txn) 0) → WalkedTo g mask c j s l → WalkedTo g mask c i s′ (set l (r .txn) x)
+walk-next g mask c j i s s′ l x r place read inside one es ex w =
     record {
       size = length-set l (r .txn) x ∙ w .size;
       each = λ t h. step g mask c i s s′ t (getD l t 0) _ r read (sought-bit t) (met-at t) (rw place at (w .each t h));
@@ -100,9 +96,25 @@ walk-next g mask c j i s s′ l x r place read inside es ex w =
 
     met-at : (t : ℕ) → getD (set l (r .txn) x) t 0 ≡ if (bit s t && isChange r t) (getD l t 0 + 1) (getD l t 0)
     met-at t = elim (ℕ-discrete t (r .txn)) [
-      | yes q ↦ rw (q, eq-eqb (r .txn) (r .txn) refl, and-true) (getD-set-same l (r .txn) x 0 (let n = w .size in omega arith) ∙ ex)
+      | yes q ↦ rw (q, eq-eqb (r .txn) (r .txn) refl, one, and-true) (getD-set-same l (r .txn) x 0 (let n = w .size in omega arith) ∙ ex)
       | no q ↦ rw (ne-eqb (r .txn) t (λ e. q (sym e)), and-false, and-false) (getD-set-other l (r .txn) t x 0 q)
     ]
+
+-- a record of one that is not sought is passed over
+pub walk-past : (g : List ℕ) (mask c j i s : ℕ) (l : List ℕ) (r : Record) → j ≡ i + 1 → r ≡ recordAt g i → bit s (r .txn) ≡ false → WalkedTo g mask c j s l → WalkedTo g mask c i s l
+walk-past g mask c j i s l r place read past w = record {
+  size = w .size;
+  each = λ t h. step g mask c i s s t (getD l t 0) (getD l t 0) r read (sought-same t) (met-same t) (rw place at (w .each t h));
+}
+  where
+    absent : (t : ℕ) → eqb (r .txn) t ≡ true → bit s t ≡ false
+    absent t e = rw (eqb-true (r .txn) t e) at past
+
+    sought-same : (t : ℕ) → bit s t ≡ bit s t && not (isBegin r t)
+    sought-same t = by-bool (eqb (r .txn) t) (λ e. rw (absent t e)) (λ e. rw (e, and-false (eqb (r .kind) 1)) (sym (and-true (bit s t))))
+
+    met-same : (t : ℕ) → getD l t 0 ≡ if (bit s t && isChange r t) (getD l t 0 + 1) (getD l t 0)
+    met-same t = by-bool (eqb (r .txn) t) (λ e. rw (absent t e)) (λ e. rw (e, and-false (eqb (r .kind) 2 || eqb (r .kind) 3), and-false (bit s t)))
 
 -- where none is sought the rest of the log does not matter
 pub walk-done : (g : List ℕ) (mask c i s : ℕ) (l : List ℕ) → s ≡ 0 → WalkedTo g mask c i s l → WalkedTo g mask c 0 s l

@@ -33,14 +33,12 @@ fn sought_next(sought: u32, r: Record) -> u32
     }
 }
 
-// How many changes of its transaction were met, with record r. One whose last begin was met has no more.
-fn met_next(sought: u32, r: Record, x: u32) -> u32
-    requires { ⌜ (r .txn < txnCount) × (x ≤ maxRecords) ⌝ }
-    ensures { λ y. ⌜ y ≡ metNext sought r x ⌝ }
+// How many changes of its transaction were met, with record r.
+fn met_next(r: Record, x: u32) -> u32
+    requires { ⌜ x ≤ maxRecords ⌝ }
+    ensures { λ y. ⌜ y ≡ metNext r x ⌝ }
 {
-    if words::has_bit(sought, r.txn as usize)
-        & ((r.kind == records::CREATE) | (r.kind == records::SET))
-    {
+    if (r.kind == records::CREATE) | (r.kind == records::SET) {
         x + 1
     } else {
         x
@@ -48,6 +46,7 @@ fn met_next(sought: u32, r: Record, x: u32) -> u32
 }
 
 // Down the log until the last begin of every transaction in the mask is met. Where one has none the walk ends at the first record.
+// Records of others are passed over by a branch: what ended is most of a log, and a count would wait for the one before it.
 fn walk_down(log: &[u32], c: usize, mask: u32) -> Walk
     requires { ⌜ (recordWords * c ≤ length (now log)) × (c ≤ maxRecords) × (recordsSound maxPages (now log) c ≡ true) ⌝ }
     ensures { λ w. ⌜ WalkedTo (now (log .entry)) mask c 0 (w .sought) (w .changes) ⌝ }
@@ -62,9 +61,11 @@ fn walk_down(log: &[u32], c: usize, mask: u32) -> Walk
         i -= 1;
         let r = log_reader::record_at(log, i);
         let t = r.txn as usize;
-        let x = met_next(sought, r, changes[t]);
-        changes[t] = x;
-        sought = sought_next(sought, r);
+        if words::has_bit(sought, t) {
+            let x = met_next(r, changes[t]);
+            changes[t] = x;
+            sought = sought_next(sought, r);
+        }
     }
     Walk { sought, changes }
 }
