@@ -15,7 +15,7 @@ const CALLS: [(&str, &str, &str, &str); 17] = [
     (
         "commit",
         "4 words; P masks; 51 × P masks",
-        "51 × P masks; a record; 2 words",
+        "19 × P masks; 32 × P more, while a pass runs only the sixteens with t in one; a record; 2 words",
         "10: no page has changes of t that are not flushed. t leaves every mask: readers, writers, unflushed, \
          known (19 × P); PRT and COT, where a flag stays while a pass runs (32 × P)",
     ),
@@ -23,7 +23,7 @@ const CALLS: [(&str, &str, &str, &str); 17] = [
         "abort",
         "4 words; of each record since t's begin 2, 2 and 6; P masks; 129 for each page that t writes; \
          51 × P masks",
-        "for each change a record and what it changes; those pages' copies; 51 × P masks; a record; 2 words",
+        "for each change a record and what it changes; those pages' copies; masks, a record and 2 words as commit",
         "11: a record for each change and one to end must fit. The changes are undone, newest first; the copies \
          of the pages that t has locked for writing become the received pages; t leaves every mask",
     ),
