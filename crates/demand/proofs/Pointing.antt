@@ -16,7 +16,7 @@ use Rattle.pages.specs.Objects.{occupied, wordOf}
 use Rattle.records.specs.declared.Record.{Record}
 use Rattle.book.specs.Lines.{Line, filtered, pagesAfter}
 use Rattle.book.specs.Pointers.{Leads}
-use Rattle.reach.specs.Reaching.{Refers, Reached, root, next}
+use Rattle.reach.specs.Reaching.{Refers, Reached, root, next, reached-some}
 use Rattle.collector.specs.Bits.{anyb-elim, and-l, and-r}
 use Rattle.collector.specs.Objects as O
 use Rattle.collector.specs.Objects.{Obj, Tag, points, Reach, edge, Whole}
@@ -88,10 +88,6 @@ module _ (n : ℕ) (a : List ℕ) (first : Origin n a) (c : Line → Bool) (ls :
   word-is : (x f : ℕ) → 1 ≤ x → f < slotWords → object x .word f ≡ wordOf pages x f
   word-is x f l k = ap (λ (b : Obj). b .word f) (sym (shows x)) ∙ view-word pages x l f k
 
-  positive : {x : ℕ} → Reached pages x → 1 ≤ x
-  positive root = omega arith
-  positive (next {o} {x} f p r) = let k = r .some in omega arith
-
   -- a reference of the claim is an edge of the machine
   to-edge : (o f x : ℕ) → 1 ≤ o → object o .occ ≡ true → Refers pages o f x → points (object o) x ≡ true
   to-edge o f x l e r =
@@ -109,18 +105,18 @@ module _ (n : ℕ) (a : List ℕ) (first : Origin n a) (c : Line → Bool) (ls :
   -- what the claim reaches, the machine reaches, where that is occupied
   pub to-reach : ((x : ℕ) → Reach object x → object x .occ ≡ true) → {x : ℕ} → Reached pages x → Reach object x
   to-reach wf root = O.root
-  to-reach wf (next {o} {x} f p r) = let q = to-reach wf p in edge q refl (to-edge o f x (positive p) (wf o q) r)
+  to-reach wf (next {o} {x} f p r) = let q = to-reach wf p in edge q refl (to-edge o f x (reached-some p) (wf o q) r)
 
   from-reach : {x : ℕ} → Reach object x → Reached pages x
   from-reach O.root = root
-  from-reach (edge {o} {x} p h e) = let q = from-reach p in from-edge o x (positive q) e (λ f r. next f q r)
+  from-reach (edge {o} {x} p h e) = let q = from-reach p in from-edge o x (reached-some q) e (λ f r. next f q r)
 
   -- the machine's pointers lead as the claim says
   pub leads-out : Claim.Leads object tag → ((x : ℕ) → Reach object x → object x .occ ≡ true) → Leads pages (filtered c ls)
   leads-out h wf = record {
-    there = λ o f x p r. sym (occ-is x (let k = r .some in omega arith)) ∙ h .occupied o x (to-reach wf p) (to-edge o f x (positive p) (wf o (to-reach wf p)) r);
+    there = λ o f x p r. sym (occ-is x (let k = r .some in omega arith)) ∙ h .occupied o x (to-reach wf p) (to-edge o f x (reached-some p) (wf o (to-reach wf p)) r);
     unbrokenly = λ o f x p r. tag-unbroken a c ls o f x
-        (let w : object o .word f ≡ x = word-is o f (positive p) (r .word) ∙ r .target in
+        (let w : object o .word f ≡ x = word-is o f (reached-some p) (r .word) ∙ r .target in
         rw w at (h .since o f (to-reach wf p) (sym (same-ref pages (object o) o f) ∙ r .reference) (λ z. r .some (sym w ∙ z))));
   }
 
@@ -135,7 +131,7 @@ module _ (n : ℕ) (a : List ℕ) (first : Origin n a) (c : Line → Bool) (ls :
   pub whole-in : Leads pages (filtered c ls) → occupied pages 1 ≡ true → Whole (objectCount n) (suc (length ls)) object tag
   whole-in h top = record {
     leads = λ o f p r z. let q = from-reach p in
-        let w : wordOf pages o f ≡ object o .word f = sym (word-is o f (positive q) (ref-small (object o) f r)) in
+        let w : wordOf pages o f ≡ object o .word f = sym (word-is o f (reached-some q) (ref-small (object o) f r)) in
         unbroken-tag a c ls o f (object o .word f) (h .unbrokenly o f (object o .word f) q
         (record { word = ref-small (object o) f r; reference = same-ref pages (object o) o f ∙ r; target = w; some = z }));
     young = λ x e. let k = born-old a c ls x in omega arith;

@@ -16,7 +16,7 @@ use Rattle.calls.specs.Formatting.{formatted}
 use Rattle.book.specs.Lines.{filtered, pagesAfter}
 use Rattle.book.specs.Books.{blank, countsCommitted, committedLines}
 use Rattle.book.specs.Pointers.{unbroken, Leads}
-use Rattle.reach.specs.Reaching.{Reached, root, next}
+use Rattle.reach.specs.Reaching.{reached-some}
 use Rattle.book_laws.specs.Keeping.{Origin, SoundFrom}
 use Rattle.book_laws.proofs.Invariant.{blank-inv}
 use Rattle.book_laws.proofs.Members.{each-nil}
@@ -24,10 +24,6 @@ use Rattle.demand.proofs.Formatted.{zeros, zero-at, formatted-length, f
 use Rattle.demand.proofs.State.{Inv3, open-store}
 use Rattle.demand.proofs.Stopping.{whole-of}
 use Rattle.demand.proofs.Rest.{Resting, rest-open}
-
-reached-some : {a : List ℕ} {x : ℕ} → Reached a x → 1 ≤ x
-reached-some root = omega arith
-reached-some (next f p r) = let k = r .some in omega arith
 
 -- a book with no line is as sound as the pages that it starts from
 pub blank-sound : (n : ℕ) (a : List ℕ) → Origin n a → SoundFrom n a []

@@ -1,5 +1,6 @@
 -- Document 01, 'The book': what a state reaches. A state is a page area. Assumes nothing.
-use Prim.Native.Nat.{ℕ, _<_}
+use Prim.Native.Nat.{ℕ, _<_, _≤_}
+use native.Mathlib.Omega.{arith}
 use mathlib.Core.Path.{_≡_}
 use mathlib.Core.Bool.{true}
 use mathlib.Core.List.{List}
@@ -21,3 +22,8 @@ pub data Reached (a : List ℕ) : ℕ → Type 0 where
 -- whatever the root reaches is occupied
 abbrev pub Whole : List ℕ → Type 0
 Whole a = (o : ℕ) → Reached a o → occupied a o ≡ true
+
+-- law: number 0 is nobody, and is not reached
+pub reached-some : {a : List ℕ} {o : ℕ} → Reached a o → 1 ≤ o
+reached-some root = omega arith
+reached-some (next f p r) = let k = r .some in omega arith

@@ -4,9 +4,8 @@ use native.Mathlib.Omega.{arith}
 use mathlib.Core.Path.{_∙_}
 use mathlib.Core.List.{List}
 use Rattle.pages.specs.Geometry as geometry
-use Rattle.reach.specs.Reaching.{Reached, root, next, Whole}
+use Rattle.reach.specs.Reaching.{Reached, root, next, Whole, reached-some}
 use Rattle.reach_walk.specs.Walk.{Walk, Marked, Queued, Consistent, Entry}
-use Rattle.reach_walk.proofs.Range.{reached-some}
 use Rattle.reach_walk.proofs.Following.{DoneTo}
 
 -- an object found stands in the queue by its own number

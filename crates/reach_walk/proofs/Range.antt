@@ -1,5 +1,4 @@
--- How many pages a length gives; which objects of them can be occupied, and which reached: none beyond the end, and not object 0.
--- Assumes nothing.
+-- How many pages a length gives, and which objects of them can be occupied: none beyond the end. Assumes nothing.
 use Prim.Native.Nat.{ℕ, _*_, _<_, _≤_}
 use native.Mathlib.Omega.{arith}
 use mathlib.Core.Path.{_≡_}
@@ -13,7 +12,6 @@ use Rattle.words.specs.Bits.{bit-none}
 use Rattle.pages.specs.Geometry.{pageWords, maxPages, objectCount, pageAt, pageOf, slotOf}
 use Rattle.pages.specs.Objects.{occupied}
 use Rattle.areas.specs.Ranges.{pagesIn}
-use Rattle.reach.specs.Reaching.{Reached, root, next}
 use Rattle.reach_walk.specs.Wholeness.{areaFits}
 use Rattle.reach_walk.specs.Walk.{PagesOf}
 
@@ -24,10 +22,6 @@ pub occupied-below : (a : List ℕ) (n x : ℕ) → length a ≡ pageWords * n �
 occupied-below a n x e h = by-bool (ltb (objectCount n) x)
     (λ t. clash h (beyond-free a n x e (ltb-true (objectCount n) x t)))
     (λ t. ltb-false (objectCount n) x t)
-
-pub reached-some : {a : List ℕ} {o : ℕ} → Reached a o → 1 ≤ o
-reached-some root = omega arith
-reached-some (next f r h) = let z = h .some in omega arith
 
 -- an area that fits is one of n pages
 pub fits-pages : (a : List ℕ) (n : ℕ) → areaFits a ≡ true → n ≡ pagesIn (length a) → PagesOf a n

@@ -3,8 +3,8 @@ use native.Mathlib.Omega.{arith}
 use mathlib.Core.Path.{sym, _∙_}
 use borrow.Author.Tests.{not-true, not-false}
 use borrow.Author.Needs.{needs}
-use Rattle.reach.specs.Reaching.{next}
-use Rattle.reach_walk.proofs.Range.{occupied-below, reached-some}
+use Rattle.reach.specs.Reaching.{next, reached-some}
+use Rattle.reach_walk.proofs.Range.{occupied-below}
 use Rattle.reach_walk.proofs.Following.{past-data, past-nothing, followed-marked}
 use Rattle.reach_walk.proofs.Outcomes.{went-for}
 use Rattle.reach_walk.proofs.follow_word.Statement.{statement}

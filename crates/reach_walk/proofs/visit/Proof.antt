@@ -3,7 +3,8 @@ use native.Mathlib.Omega.{arith}
 use mathlib.Core.Path.{sym, _∙_}
 use borrow.Author.Tests.{ne-eqb, not-true, not-false}
 use borrow.Author.Needs.{needs}
-use Rattle.reach_walk.proofs.Range.{beyond-free, reached-some}
+use Rattle.reach.specs.Reaching.{reached-some}
+use Rattle.reach_walk.proofs.Range.{beyond-free}
 use Rattle.reach_walk.proofs.Entering.{room, enters}
 use Rattle.reach_walk.proofs.Following.{grown-none}
 use Rattle.reach_walk.proofs.visit.Statement.{statement}
