@@ -12,8 +12,9 @@
  * does not overlap, its image or buffer neither with an area.
  *
  * A call answers  answer number * 2^32 + value : number 0 where accepted, else the refusal's number
- * in document 01's table, with the value 0 and every buffer as it was. Any words may be lent.
- * docs/CALLING.md has the refusals, what to write to the disk and when, and names whole programs.
+ * in document 01's table, with the value 0 and every buffer as it was. Any words may be lent, but to
+ * the held calls. docs/CALLING.md has the refusals, what to write to the disk and when, and names
+ * whole programs.
  */
 #ifndef KOPHDAEN_H
 #define KOPHDAEN_H
@@ -139,6 +140,37 @@ uint64_t kophdaen_reopen_step(
     const uint32_t *received, size_t received_words, const uint32_t *log, size_t log_words,
     uint32_t *counts, size_t counts_words, uint32_t *work, size_t work_words);
 
+/* Whether every object that the root reaches is occupied, in one page area: stored, copies or
+ * received. Reaches: the root, and what words 0 to 3 of a reached object name, where not 0; an object
+ * above 16 * P is not occupied. Answers 1 where the length is not 129 * P. Takes 33 kB of stack.
+ * Value: 1 if so, else 0. */
+uint64_t kophdaen_whole(const uint32_t *pages, size_t pages_words);
+
+/* Held calls: kophdaen_held_NAME is kophdaen_NAME, the same answer and the same words, but does not
+ * look at every word of the areas for refusal 1. The caller guarantees instead, and nothing checks:
+ *   - kophdaen_format has accepted the areas; or kophdaen_reopen has, with what a disk held, and
+ *     kophdaen_whole then found the received pages whole (value 1), before the first reopening step;
+ *   - since then only calls, lent or held, and cuts have changed the areas;
+ *   - a read buffer has 8 words, an image 129.
+ * A held call on anything else may do anything. Refusal 2 and all others are answered as ever. An
+ * audit is a lent call that changes nothing, as kophdaen_lock_read with t = 16: it answers 1 only
+ * where some word is out of range, else 2 or 3. */
+__typeof__(kophdaen_begin) kophdaen_held_begin;
+__typeof__(kophdaen_commit) kophdaen_held_commit;
+__typeof__(kophdaen_abort) kophdaen_held_abort;
+__typeof__(kophdaen_lock_read) kophdaen_held_lock_read;
+__typeof__(kophdaen_lock_write) kophdaen_held_lock_write;
+__typeof__(kophdaen_read) kophdaen_held_read;
+__typeof__(kophdaen_create) kophdaen_held_create;
+__typeof__(kophdaen_set_word) kophdaen_held_set_word;
+__typeof__(kophdaen_flush) kophdaen_held_flush;
+__typeof__(kophdaen_force) kophdaen_held_force;
+__typeof__(kophdaen_store_page) kophdaen_held_store_page;
+__typeof__(kophdaen_empty_log) kophdaen_held_empty_log;
+__typeof__(kophdaen_start_pass) kophdaen_held_start_pass;
+__typeof__(kophdaen_pass_step) kophdaen_held_pass_step;
+__typeof__(kophdaen_reopen_step) kophdaen_held_reopen_step;
+
 /* The six areas as one value, and every call on it: what stands above, with the areas in one argument. */
 typedef struct kophdaen_areas {
     uint32_t *stored;
@@ -248,6 +280,88 @@ static inline uint64_t kophdaen_areas_reopen(const kophdaen_areas *areas)
 static inline uint64_t kophdaen_areas_reopen_step(const kophdaen_areas *areas)
 {
     return kophdaen_reopen_step(KOPHDAEN_LENT(areas));
+}
+
+/* .. and the held ones. */
+static inline uint64_t kophdaen_areas_held_begin(const kophdaen_areas *areas, uint32_t t)
+{
+    return kophdaen_held_begin(KOPHDAEN_LENT(areas), t);
+}
+
+static inline uint64_t kophdaen_areas_held_commit(const kophdaen_areas *areas, uint32_t t)
+{
+    return kophdaen_held_commit(KOPHDAEN_LENT(areas), t);
+}
+
+static inline uint64_t kophdaen_areas_held_abort(const kophdaen_areas *areas, uint32_t t)
+{
+    return kophdaen_held_abort(KOPHDAEN_LENT(areas), t);
+}
+
+static inline uint64_t kophdaen_areas_held_lock_read(
+    const kophdaen_areas *areas, uint32_t t, uint32_t page)
+{
+    return kophdaen_held_lock_read(KOPHDAEN_LENT(areas), t, page);
+}
+
+static inline uint64_t kophdaen_areas_held_lock_write(
+    const kophdaen_areas *areas, uint32_t t, uint32_t page)
+{
+    return kophdaen_held_lock_write(KOPHDAEN_LENT(areas), t, page);
+}
+
+static inline uint64_t kophdaen_areas_held_read(
+    const kophdaen_areas *areas, uint32_t *buffer, size_t buffer_words, uint32_t t, uint32_t object)
+{
+    return kophdaen_held_read(KOPHDAEN_LENT(areas), buffer, buffer_words, t, object);
+}
+
+static inline uint64_t kophdaen_areas_held_create(
+    const kophdaen_areas *areas, uint32_t t, uint32_t object)
+{
+    return kophdaen_held_create(KOPHDAEN_LENT(areas), t, object);
+}
+
+static inline uint64_t kophdaen_areas_held_set_word(
+    const kophdaen_areas *areas, uint32_t t, uint32_t object, uint32_t field, uint32_t word)
+{
+    return kophdaen_held_set_word(KOPHDAEN_LENT(areas), t, object, field, word);
+}
+
+static inline uint64_t kophdaen_areas_held_flush(
+    const kophdaen_areas *areas, const uint32_t *image, size_t image_words, uint32_t t, uint32_t page)
+{
+    return kophdaen_held_flush(KOPHDAEN_LENT(areas), image, image_words, t, page);
+}
+
+static inline uint64_t kophdaen_areas_held_force(const kophdaen_areas *areas)
+{
+    return kophdaen_held_force(KOPHDAEN_LENT(areas));
+}
+
+static inline uint64_t kophdaen_areas_held_store_page(const kophdaen_areas *areas, uint32_t page)
+{
+    return kophdaen_held_store_page(KOPHDAEN_LENT(areas), page);
+}
+
+static inline uint64_t kophdaen_areas_held_empty_log(const kophdaen_areas *areas)
+{
+    return kophdaen_held_empty_log(KOPHDAEN_LENT(areas));
+}
+
+static inline uint64_t kophdaen_areas_held_start_pass(const kophdaen_areas *areas)
+{
+    return kophdaen_held_start_pass(KOPHDAEN_LENT(areas));
+}
+
+static inline uint64_t kophdaen_areas_held_pass_step(const kophdaen_areas *areas)
+{
+    return kophdaen_held_pass_step(KOPHDAEN_LENT(areas));
+}
+
+static inline uint64_t kophdaen_areas_held_reopen_step(const kophdaen_areas *areas)
+{
+    return kophdaen_held_reopen_step(KOPHDAEN_LENT(areas));
 }
 
 #undef KOPHDAEN_LENT

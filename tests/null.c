@@ -1,5 +1,5 @@
-/* include/kophdaen.h: with the length 0 a pointer may be NULL, and the call answers 1. Tried of areas, of an image and of a read
- * buffer. Prints nothing where it is so. */
+/* include/kophdaen.h: with the length 0 a pointer may be NULL, and the call answers 1. Tried of areas, of an image, of a read buffer
+ * and of the pages that may be whole. Prints nothing where it is so. */
 #include <stdio.h>
 
 #include "kophdaen.h"
@@ -36,5 +36,6 @@ int main(void)
     answers("a lock for writing", kophdaen_areas_lock_write(&depot, 0, 0), 0);
     answers("read into no buffer", kophdaen_areas_read(&depot, NULL, 0, 0, 1), 1);
     answers("flush of no image", kophdaen_areas_flush(&depot, NULL, 0, 0, 0), 1);
+    answers("whole of no pages", kophdaen_whole(NULL, 0), 1);
     return wrong;
 }

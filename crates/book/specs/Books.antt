@@ -16,6 +16,8 @@ pub data Stage : Type 0 where
 
 -- 'It .. is fed the calls, whether each was accepted, the cuts, and the slots that each pass step clears'
 pub record Book : Type 0 where
+  -- the pages that it starts from
+  pub origin : List ℕ
   -- newest first; the oldest `stable` of them are stable
   pub lines : List Line
   pub stable : ℕ
@@ -26,9 +28,9 @@ pub record Book : Type 0 where
   pub known : ℕ → ℕ → Bool
   pub stage : Stage
 
--- 'It starts from the formatted pages'
-abbrev pub blank : Book
-blank = record { lines = []; stable = 0; begun = 0; running = λ t. 0; known = λ t o. false; stage = opened }
+-- 'It starts from the formatted pages': from these, with no line
+abbrev pub blank : List ℕ → Book
+blank a = record { origin = a; lines = []; stable = 0; begun = 0; running = λ t. 0; known = λ t o. false; stage = opened }
 
 -- own transaction i runs
 unfoldable pub runs : Book → ℕ → Bool
@@ -50,13 +52,13 @@ committedLines b = filtered (countsCommitted b) (b .lines)
 unfoldable pub fullLines : Book → List Line
 fullLines b = filtered (countsFull b) (b .lines)
 
--- 'The committed state' and 'the full pages' of a store of n pages
-abbrev pub committedPages : ℕ → Book → List ℕ
-committedPages n b = pagesAfter n (committedLines b)
+-- 'The committed state is the formatted pages after, in line order, ..'
+abbrev pub committedPages : Book → List ℕ
+committedPages b = pagesAfter (b .origin) (committedLines b)
 
 -- 'the full pages'
-abbrev pub fullPages : ℕ → Book → List ℕ
-fullPages n b = pagesAfter n (fullLines b)
+abbrev pub fullPages : Book → List ℕ
+fullPages b = pagesAfter (b .origin) (fullLines b)
 
 -- 'drops the lines not stable, then all lines of each transaction without kind 4 or 5'
 unfoldable pub surviving : Book → List Line
@@ -64,4 +66,4 @@ surviving b = let kept = drop (length (b .lines) - b .stable) (b .lines) in filt
 
 -- 'A cut or accepted reopen stops all transactions and drops the lines ..'
 abbrev pub stopped : Stage → Book → Book
-stopped g b = record { lines = surviving b; stable = length (surviving b); begun = b .begun; running = λ t. 0; known = λ t o. false; stage = g }
+stopped g b = record { origin = b .origin; lines = surviving b; stable = length (surviving b); begun = b .begun; running = λ t. 0; known = λ t o. false; stage = g }

@@ -5,7 +5,7 @@ use mathlib.Core.Bool.{Bool, true, not, _&&_}
 use mathlib.Core.List.{List, [], _∷_}
 use Rattle.words.specs.Tests.{if}
 use Rattle.pages.specs.Geometry.{isObject, maxPages}
-use Rattle.pages.specs.Objects.{occupied}
+use Rattle.pages.specs.Objects.{occupied, formattedPages}
 use Rattle.records.specs.Records.{maxRecords}
 use Rattle.areas.specs.Answers.{accepted}
 use Rattle.areas.specs.Areas.{Areas}
@@ -14,7 +14,8 @@ use Rattle.calls.specs.Formatting.{formatted, cut}
 use Rattle.calls.specs.Calls.{Call, step, restep, perform}
 use Rattle.book.specs.Books.{opened, awaiting, storing, Book, blank, committedLines, fullLines, committedPages, fullPages, stopped}
 use Rattle.book.specs.Feeding.{fed}
-use Rattle.book.specs.Pointers.{Reached, Leads}
+use Rattle.book.specs.Pointers.{Leads}
+use Rattle.reach.specs.Reaching.{Reached}
 
 -- 'Take any list of calls .. and of power cuts'. A cut in a call acts on what stood at its entry (the call is not in the list) or at its exit
 -- (the call stands before the cut).
@@ -40,7 +41,7 @@ after n q power = record { store = cut (q .store); book = stopped awaiting (q .b
 
 -- 'a freshly formatted store'
 abbrev pub start : ℕ → ℕ → Point
-start n l = record { store = formatted n l; book = blank }
+start n l = record { store = formatted n l; book = blank (formattedPages n) }
 
 -- object o's slot is cleared in the received maps by the call
 abbrev pub reclaims : ℕ → Point → Call → ℕ → Bool
@@ -49,24 +50,24 @@ reclaims n q c o = isObject n o && occupied (q .store .received) o && not (occup
 -- 'no sweep in it reclaimed a service record that the committed state then reached from the root, or that a running transaction had come
 -- to know': of a pass step
 pub record Spares (n : ℕ) (q : Point) : Type 0 where
-  pub reached : (o : ℕ) → accepts q step ≡ true → reclaims n q step o ≡ true → Reached (committedPages n (q .book)) o → ⊥
+  pub reached : (o : ℕ) → accepts q step ≡ true → reclaims n q step o ≡ true → Reached (committedPages (q .book)) o → ⊥
   pub known : (t o : ℕ) → accepts q step ≡ true → reclaims n q step o ≡ true → (q .book .running t ≡ 0 → ⊥) → q .book .known t o ≡ true → ⊥
 
 -- 'that step leaves the committed state in all three page areas': the last reopening step, after all n pages were stored
 pub record Reopens (n : ℕ) (q : Point) : Type 0 where
-  pub stored : accepts q restep ≡ true → q .book .stage ≡ storing n → perform (q .store) restep .after .stored ≡ committedPages n (q .book)
-  pub copies : accepts q restep ≡ true → q .book .stage ≡ storing n → perform (q .store) restep .after .copies ≡ committedPages n (q .book)
-  pub received : accepts q restep ≡ true → q .book .stage ≡ storing n → perform (q .store) restep .after .received ≡ committedPages n (q .book)
+  pub stored : accepts q restep ≡ true → q .book .stage ≡ storing n → perform (q .store) restep .after .stored ≡ committedPages (q .book)
+  pub copies : accepts q restep ≡ true → q .book .stage ≡ storing n → perform (q .store) restep .after .copies ≡ committedPages (q .book)
+  pub received : accepts q restep ≡ true → q .book .stage ≡ storing n → perform (q .store) restep .after .received ≡ committedPages (q .book)
 
 -- what holds wherever the list stands, whatever call comes next
 pub record Holds (n : ℕ) (q : Point) : Type 0 where
   -- 'the received pages equal the full pages, except from a cut or accepted reopen to the last reopening step'
-  pub shown : q .book .stage ≡ opened → q .store .received ≡ fullPages n (q .book)
+  pub shown : q .book .stage ≡ opened → q .store .received ≡ fullPages (q .book)
   -- the store takes calls only where the book has no reopening to await
   pub finished : reopening (q .store) ≡ 2 → q .book .stage ≡ opened
   -- 'each pointer in a reachable record leads to the record it was written for', in the committed state and in the full pages
-  pub committed : Leads (committedPages n (q .book)) (committedLines (q .book))
-  pub full : Leads (fullPages n (q .book)) (fullLines (q .book))
+  pub committed : Leads (committedPages (q .book)) (committedLines (q .book))
+  pub full : Leads (fullPages (q .book)) (fullLines (q .book))
   pub spares : Spares n q
   pub reopens : Reopens n q
 

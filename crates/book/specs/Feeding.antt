@@ -20,7 +20,7 @@ put f t v u = if (eqb u t) v (f u)
 
 -- the book with other lines
 abbrev pub withLines : Book → List Line → Book
-withLines b ls = record { lines = ls; stable = b .stable; begun = b .begun; running = b .running; known = b .known; stage = b .stage }
+withLines b ls = record { origin = b .origin; lines = ls; stable = b .stable; begun = b .begun; running = b .running; known = b .known; stage = b .stage }
 
 -- a line of the transaction that t runs
 abbrev pub adds : Book → ℕ → Record → Book
@@ -28,11 +28,12 @@ adds b t r = withLines b (line r (b .running t) ∷ b .lines)
 
 -- 't knows ..' the objects that the test names too
 abbrev pub learns : Book → ℕ → (ℕ → Bool) → Book
-learns b t f = record { lines = b .lines; stable = b .stable; begun = b .begun; running = b .running; known = put (b .known) t (λ o. b .known t o || f o); stage = b .stage }
+learns b t f = record { origin = b .origin; lines = b .lines; stable = b .stable; begun = b .begun; running = b .running; known = put (b .known) t (λ o. b .known t o || f o); stage = b .stage }
 
 -- 'each begin line opens a transaction of its own'; 'At begin t knows the root only.'
 abbrev pub begins : Book → ℕ → Book
 begins b t = record {
+  origin = b .origin;
   lines = line (beginOf t) (b .begun + 1) ∷ b .lines;
   stable = b .stable;
   begun = b .begun + 1;
@@ -43,7 +44,7 @@ begins b t = record {
 
 -- the end of the transaction that t runs
 abbrev pub ends : Book → ℕ → Book
-ends b t = record { lines = b .lines; stable = b .stable; begun = b .begun; running = put (b .running) t 0; known = put (b .known) t (λ o. false); stage = b .stage }
+ends b t = record { origin = b .origin; lines = b .lines; stable = b .stable; begun = b .begun; running = put (b .running) t 0; known = put (b .known) t (λ o. false); stage = b .stage }
 
 -- 'the references other than 0 become known': x is one of object o's
 abbrev pub refersTo : List ℕ → ℕ → ℕ → Bool
@@ -61,7 +62,7 @@ sweepLines before after ls (suc p) =
 
 -- 'Force makes the next line stable, struck or not.'
 abbrev pub forced : Book → Book
-forced b = record { lines = b .lines; stable = b .stable + 1; begun = b .begun; running = b .running; known = b .known; stage = b .stage }
+forced b = record { origin = b .origin; lines = b .lines; stable = b .stable + 1; begun = b .begun; running = b .running; known = b .known; stage = b .stage }
 
 -- 'Then P steps store one page each, page 0 first, and one more step empties the log.'
 abbrev pub stepped : ℕ → Stage → Stage
@@ -71,7 +72,7 @@ stepped n (storing k) = if (ltb k n) (storing (k + 1)) opened
 
 -- the book at another stage of a reopening
 abbrev pub atStage : Book → Stage → Book
-atStage b g = record { lines = b .lines; stable = b .stable; begun = b .begun; running = b .running; known = b .known; stage = g }
+atStage b g = record { origin = b .origin; lines = b .lines; stable = b .stable; begun = b .begun; running = b .running; known = b .known; stage = g }
 
 -- an accepted call in a store of n pages; before, after: the received pages around it, of which only a pass step's cleared slots are read
 unfoldable pub fed : ℕ → Book → Call → List ℕ → List ℕ → Book
@@ -81,9 +82,9 @@ fed n b (abort t) before after =
     let i = b .running t in ends (adds (withLines b (undoneLines i (left i (b .lines)) (b .lines))) t (abortedOf t)) t
 fed n b (lockRead t p) before after = b
 fed n b (lockWrite t p) before after = b
-fed n b (read t o buffer) before after = learns b t (refersTo (fullPages n b) o)
+fed n b (read t o buffer) before after = learns b t (refersTo (fullPages b) o)
 fed n b (create t o) before after = learns (adds b t (createOf t o)) t (eqb o)
-fed n b (setWord t o f v) before after = adds b t (setOf t o f (wordOf (fullPages n b) o f) v)
+fed n b (setWord t o f v) before after = adds b t (setOf t o f (wordOf (fullPages b) o f) v)
 fed n b (flush t p image) before after = b
 fed n b force before after = forced b
 fed n b (store p) before after = b

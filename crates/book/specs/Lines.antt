@@ -4,7 +4,6 @@ use mathlib.Core.Bool.{Bool, true, false, not, _&&_, _||_}
 use mathlib.Core.List.{List, [], _∷_}
 use lib.Dec.{eqb}
 use Rattle.words.specs.Tests.{if}
-use Rattle.pages.specs.Objects.{formattedPages}
 use Rattle.records.specs.declared.Record.{Record}
 use Rattle.records.specs.Records.{isEnd}
 use Rattle.records.specs.Effects.{effect, undoing}
@@ -64,7 +63,7 @@ unfoldable pub filtered : (Line → Bool) → List Line → List Line
 filtered f [] = []
 filtered f (l ∷ ls) = let on = filtered f ls in if (f l) (l ∷ on) on
 
--- 'the formatted pages after, in line order, ..' these lines, in a store of n pages
-unfoldable pub pagesAfter : ℕ → List Line → List ℕ
-pagesAfter n [] = formattedPages n
-pagesAfter n (l ∷ ls) = effect (pagesAfter n ls) (l .entry)
+-- 'the formatted pages after, in line order, ..' these lines: a, the pages that the book starts from
+unfoldable pub pagesAfter : List ℕ → List Line → List ℕ
+pagesAfter a [] = a
+pagesAfter a (l ∷ ls) = effect (pagesAfter a ls) (l .entry)

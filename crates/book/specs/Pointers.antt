@@ -1,27 +1,16 @@
--- Document 01, 'The book': what a state reaches, and when a pointer leads to its record. Assumes nothing.
-use Prim.Native.Nat.{ℕ, _<_}
+-- Document 01, 'The book': when a pointer leads to its record. Assumes nothing.
+use Prim.Native.Nat.{ℕ}
 use mathlib.Core.Path.{_≡_}
 use mathlib.Core.Bool.{Bool, true, false, _&&_, _||_}
 use mathlib.Core.List.{List, [], _∷_}
 use lib.Dec.{eqb}
 use Rattle.words.specs.Tests.{if}
 use Rattle.words.specs.Bits.{bit}
-use Rattle.pages.specs.Geometry.{pageOf, slotOf, isRef, slotWords}
-use Rattle.pages.specs.Objects.{occupied, wordOf}
+use Rattle.pages.specs.Geometry.{pageOf, slotOf}
+use Rattle.pages.specs.Objects.{occupied}
+use Rattle.reach.specs.Reaching.{Refers, Reached}
 use Rattle.records.specs.declared.Record.{Record}
 use Rattle.book.specs.Lines.{Line}
-
--- word f of object o is a reference to x in page area a
-pub record Refers (a : List ℕ) (o f x : ℕ) : Type 0 where
-  pub word : f < slotWords
-  pub reference : isRef a o f ≡ true
-  pub target : wordOf a o f ≡ x
-  pub some : x ≡ 0 → ⊥
-
--- 'A state reaches the root and what a reached object's references name.'
-pub data Reached (a : List ℕ) : ℕ → Type 0 where
-  root : Reached a 1
-  next : {o x : ℕ} (f : ℕ) → Reached a o → Refers a o f x → Reached a x
 
 -- a sweep's record frees object o
 abbrev pub sweeps : Record → ℕ → Bool

@@ -31,9 +31,9 @@ module _ (c : Line → Bool) where
   filtered-past [] ls h = refl
   filtered-past (l ∷ a) ls h = rw (h l here) (filtered-past a ls (λ m i. h m (later i)))
 
-  pub seen-past-all : (a ls : List Line) (x : ℕ) → Each (λ l. c l ≡ false) a → seen c (a ++ ls) x ≡ seen c ls x
-  seen-past-all [] ls x h = refl
-  seen-past-all (l ∷ a) ls x h = seen-out c l (a ++ ls) x (h l here) ∙ seen-past-all a ls x (λ m i. h m (later i))
+  pub seen-past-all : (p : List ℕ) (a ls : List Line) (x : ℕ) → Each (λ l. c l ≡ false) a → seen p c (a ++ ls) x ≡ seen p c ls x
+  seen-past-all p [] ls x h = refl
+  seen-past-all p (l ∷ a) ls x h = seen-out p c l (a ++ ls) x (h l here) ∙ seen-past-all p a ls x (λ m i. h m (later i))
 
 pub filtered-struck : (c d : Line → Bool) (i : ℕ) (ls : List Line) → ((l : Line) → c (strike i l) ≡ d l) → ((l : Line) → d l ≡ true → strike i l ≡ l)
     → filtered c (struckAll i ls) ≡ filtered d ls
@@ -46,10 +46,10 @@ filtered-struck c d i (l ∷ ls) h k = by-bool (d l)
 -- two lists of lines with one committed state
 pub record Alike (ls ms : List Line) : Type 0 where
   pub lines : committedOf ls ≡ committedOf ms
-  pub shows : (x : ℕ) → seen (counted ls) ls x ≡ seen (counted ms) ms x
+  pub shows : (p : List ℕ) (x : ℕ) → seen p (counted ls) ls x ≡ seen p (counted ms) ms x
 
 pub alike-trans : {ls ms ns : List Line} → Alike ls ms → Alike ms ns → Alike ls ns
-alike-trans a b = record { lines = a .lines ∙ b .lines; shows = λ x. a .shows x ∙ b .shows x }
+alike-trans a b = record { lines = a .lines ∙ b .lines; shows = λ p x. a .shows p x ∙ b .shows p x }
 
 -- a line that does not count in the committed state
 pub record Idle (ls : List Line) (l : Line) : Type 0 where
@@ -61,7 +61,7 @@ pub alike-past : (a ls : List Line) → Each (Idle ls) a → Alike (a ++ ls) ls
 unfolding committedOf
 alike-past a ls h = record {
   lines = filtered-past (counted (a ++ ls)) a ls idle ∙ filtered-same (counted (a ++ ls)) (counted ls) ls (λ l i. same l);
-  shows = λ x. seen-past-all (counted (a ++ ls)) a ls x idle ∙ seen-agree (counted (a ++ ls)) (counted ls) ls x (λ l i e. same l);
+  shows = λ p x. seen-past-all (counted (a ++ ls)) p a ls x idle ∙ seen-agree p (counted (a ++ ls)) (counted ls) ls x (λ l i e. same l);
 }
   where
     same : (l : Line) → counted (a ++ ls) l ≡ counted ls l
@@ -74,7 +74,7 @@ pub alike-struck : (i : ℕ) (ls : List Line) → hasCommit i ls ≡ false → A
 unfolding committedOf
 alike-struck i ls h = record {
   lines = filtered-struck (counted (struckAll i ls)) (counted ls) i ls same stays;
-  shows = λ x. seen-struck (counted (struckAll i ls)) i ls x ∙ seen-agree (λ l. counted (struckAll i ls) (strike i l)) (counted ls) ls x (λ l j e. same l);
+  shows = λ p x. seen-struck p (counted (struckAll i ls)) i ls x ∙ seen-agree p (λ l. counted (struckAll i ls) (strike i l)) (counted ls) ls x (λ l j e. same l);
 }
   where
     out : (l : Line) → isLeft i l ≡ true → counted ls l ≡ false

@@ -66,7 +66,7 @@ module _ (b : Book) (inv : BookInv b) (t : ℕ) (run : Runs b t) where
       ∙ sym (full-owner (isSweep (l .entry)) (l .struck) (hasCommit (l .owner) (b .lines)) (runs b (l .owner)))
 
   pub commit-full : (x : ℕ) → seenFull (committedBy b t) x ≡ seenFull b x
-  commit-full x = seen-past (countsFull (committedBy b t)) (line (commitOf t) (b .running t)) (b .lines) x refl ∙ seen-agree (countsFull (committedBy b t)) (countsFull b) (b .lines) x (λ l j h. commit-all l)
+  commit-full x = seen-past (b .origin) (countsFull (committedBy b t)) (line (commitOf t) (b .running t)) (b .lines) x refl ∙ seen-agree (b .origin) (countsFull (committedBy b t)) (countsFull b) (b .lines) x (λ l j h. commit-all l)
 
   none : hasCommit (b .running t) (b .lines) ≡ false
   none = unended (b .running t) (b .lines) (inv .unended t run)
@@ -113,9 +113,9 @@ module _ (b : Book) (inv : BookInv b) (wr : ℕ → ℕ → Bool) (w : Writers b
         (λ e. rw e))
 
     pub commit-committed : (x : ℕ) → seenCommitted (committedBy b t) x ≡ if (wr t (pageOf x)) (seenFull b x) (seenCommitted b x)
-    commit-committed x = seen-past (countsCommitted kept) (line (commitOf t) i) (b .lines) x refl ∙ by-bool (wr t (pageOf x))
-        (λ e. rw e (seen-agree (countsCommitted kept) (countsFull b) (b .lines) x (commit-on x e)))
-        (λ e. rw e (seen-agree (countsCommitted kept) (countsCommitted b) (b .lines) x (commit-off x e)))
+    commit-committed x = seen-past (b .origin) (countsCommitted kept) (line (commitOf t) i) (b .lines) x refl ∙ by-bool (wr t (pageOf x))
+        (λ e. rw e (seen-agree (b .origin) (countsCommitted kept) (countsFull b) (b .lines) x (commit-on x e)))
+        (λ e. rw e (seen-agree (b .origin) (countsCommitted kept) (countsCommitted b) (b .lines) x (commit-off x e)))
 
     -- abort
     abbrev gone : Book
@@ -141,11 +141,11 @@ module _ (b : Book) (inv : BookInv b) (wr : ℕ → ℕ → Bool) (w : Writers b
     added-out : (l : Line) → In l (added i t (b .lines) unkept) → counts l ≡ false
     added-out l j = rw (abort-idle i t (b .lines) unkept l j .unswept, abort-own i t (b .lines) unkept l j, own-out) (and-false (not (l .struck)))
 
-    abort-seen : (x : ℕ) → seenFull gone x ≡ seen (λ l. counts (strike i l)) (b .lines) x
-    abort-seen x = seen-agree (countsFull gone) counts (gone .lines) x (λ l j h. counts-then l)
-        ∙ ap (λ (ls : List Line). seen counts ls x) (abort-lines i t (b .lines) unkept)
-        ∙ seen-past-all counts (added i t (b .lines) unkept) (struckAll i (b .lines)) x added-out
-        ∙ seen-struck counts i (b .lines) x
+    abort-seen : (x : ℕ) → seenFull gone x ≡ seen (b .origin) (λ l. counts (strike i l)) (b .lines) x
+    abort-seen x = seen-agree (b .origin) (countsFull gone) counts (gone .lines) x (λ l j h. counts-then l)
+        ∙ ap (λ (ls : List Line). seen (b .origin) counts ls x) (abort-lines i t (b .lines) unkept)
+        ∙ seen-past-all counts (b .origin) (added i t (b .lines) unkept) (struckAll i (b .lines)) x added-out
+        ∙ seen-struck (b .origin) counts i (b .lines) x
 
     struck-out : (l : Line) → isLeft i l ≡ true → counts (strike i l) ≡ false
     struck-out l e = let f = left-facts i l e in rw (e, f .unswept)
@@ -171,5 +171,5 @@ module _ (b : Book) (inv : BookInv b) (wr : ℕ → ℕ → Bool) (w : Writers b
 
     pub abort-full : (x : ℕ) → seenFull (abortedBy b t) x ≡ if (wr t (pageOf x)) (seenCommitted b x) (seenFull b x)
     abort-full x = abort-seen x ∙ by-bool (wr t (pageOf x))
-        (λ e. rw e (seen-agree (λ l. counts (strike i l)) (countsCommitted b) (b .lines) x (abort-on x e)))
-        (λ e. rw e (seen-agree (λ l. counts (strike i l)) (countsFull b) (b .lines) x (abort-off x e)))
+        (λ e. rw e (seen-agree (b .origin) (λ l. counts (strike i l)) (countsCommitted b) (b .lines) x (abort-on x e)))
+        (λ e. rw e (seen-agree (b .origin) (λ l. counts (strike i l)) (countsFull b) (b .lines) x (abort-off x e)))

@@ -37,8 +37,8 @@ module _ (b : Book) (inv : BookInv b) (t : ℕ) where
 
     pub begin-full : (x : ℕ) → seenFull (begins b t) x ≡ seenFull b x
     unfolding hasCommit
-    begin-full x = seen-past (countsFull (begins b t)) (line (beginOf t) (b .begun + 1)) (b .lines) x refl
-        ∙ seen-agree (countsFull (begins b t)) (countsFull b) (b .lines) x
+    begin-full x = seen-past (b .origin) (countsFull (begins b t)) (line (beginOf t) (b .begun + 1)) (b .lines) x refl
+        ∙ seen-agree (b .origin) (countsFull (begins b t)) (countsFull b) (b .lines) x
         (λ l j e. ap (λ (z : Bool). counted (b .lines) l || (not (l .struck) && z)) (begin-runs b inv t small idle (l .owner) (inv .lines l j .owned)))
 
   -- create and set: a record of any other kind than commit and sweep
@@ -49,18 +49,18 @@ module _ (b : Book) (inv : BookInv b) (t : ℕ) where
 
     pub adds-full : (x : ℕ) → seenFull (adds b t r) x ≡ acted (suc (length (b .lines))) r x (seenFull b x)
     unfolding runs hasCommit
-    adds-full x = seen-on (countsFull (adds b t r)) (line r (b .running t)) (b .lines) x
+    adds-full x = seen-on (b .origin) (countsFull (adds b t r)) (line r (b .running t)) (b .lines) x
         (or-r (countsCommitted (adds b t r) (line r (b .running t))) (runs (adds b t r) (b .running t)) (runs-it b inv t run))
-        ∙ ap (acted (suc (length (b .lines))) r x) (seen-agree (countsFull (adds b t r)) (countsFull b) (b .lines) x (λ l j e. rw uncommitted))
+        ∙ ap (acted (suc (length (b .lines))) r x) (seen-agree (b .origin) (countsFull (adds b t r)) (countsFull b) (b .lines) x (λ l j e. rw uncommitted))
 
 -- a sweep's line
 module _ (b : Book) (p m : ℕ) where
   pub sweep-committed : (x : ℕ) → seenCommitted (sweptBy b p m) x ≡ acted (suc (length (b .lines))) (sweepOf p m) x (seenCommitted b x)
   unfolding hasCommit
-  sweep-committed x = seen-on (countsCommitted (sweptBy b p m)) (line (sweepOf p m) 0) (b .lines) x refl
-      ∙ ap (acted (suc (length (b .lines))) (sweepOf p m) x) (seen-agree (countsCommitted (sweptBy b p m)) (countsCommitted b) (b .lines) x (λ l j e. refl))
+  sweep-committed x = seen-on (b .origin) (countsCommitted (sweptBy b p m)) (line (sweepOf p m) 0) (b .lines) x refl
+      ∙ ap (acted (suc (length (b .lines))) (sweepOf p m) x) (seen-agree (b .origin) (countsCommitted (sweptBy b p m)) (countsCommitted b) (b .lines) x (λ l j e. refl))
 
   pub sweep-full : (x : ℕ) → seenFull (sweptBy b p m) x ≡ acted (suc (length (b .lines))) (sweepOf p m) x (seenFull b x)
   unfolding hasCommit runs
-  sweep-full x = seen-on (countsFull (sweptBy b p m)) (line (sweepOf p m) 0) (b .lines) x refl
-      ∙ ap (acted (suc (length (b .lines))) (sweepOf p m) x) (seen-agree (countsFull (sweptBy b p m)) (countsFull b) (b .lines) x (λ l j e. refl))
+  sweep-full x = seen-on (b .origin) (countsFull (sweptBy b p m)) (line (sweepOf p m) 0) (b .lines) x refl
+      ∙ ap (acted (suc (length (b .lines))) (sweepOf p m) x) (seen-agree (b .origin) (countsFull (sweptBy b p m)) (countsFull b) (b .lines) x (λ l j e. refl))

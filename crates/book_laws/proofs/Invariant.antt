@@ -21,13 +21,13 @@ use Rattle.book_laws.proofs.Ends.{no-end}
 use Rattle.book_laws.proofs.Running.{put-same, put-other, runs-of, runs-same, runs-it}
 use Rattle.book_laws.proofs.Stops.{stableLines, survives, survive-end}
 
-pub blank-inv : BookInv blank
-blank-inv = record {
+pub blank-inv : (a : List ℕ) → BookInv (blank a)
+blank-inv a = record {
   distinct = λ t u r e. absurd (r refl);
   few = λ t l. refl;
   young = λ t. omega arith;
   unended = λ t r. absurd (r refl);
-  lines = each-nil (LineOk blank);
+  lines = each-nil (LineOk (blank a));
   since = λ t r. absurd (r refl);
   stable = omega arith;
 }
@@ -99,7 +99,7 @@ sweeps-inv b inv before after (suc p) = let ih = sweeps-inv b inv before after p
 
 -- the same lines and transactions: of learning, of forcing a line, of a stage
 abbrev beside : Book → ℕ → (ℕ → ℕ → Bool) → Stage → Book
-beside b k f g = record { lines = b .lines; stable = k; begun = b .begun; running = b .running; known = f; stage = g }
+beside b k f g = record { origin = b .origin; lines = b .lines; stable = k; begun = b .begun; running = b .running; known = f; stage = g }
 
 beside-inv : (b : Book) → BookInv b → (k : ℕ) (f : ℕ → ℕ → Bool) (g : Stage) → k ≤ length (b .lines) → BookInv (beside b k f g)
 unfolding runs

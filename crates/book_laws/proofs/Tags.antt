@@ -32,39 +32,39 @@ time-after m r x f a = by-bool (makesOrFrees r x)
     set true = ap (λ (b : Bool). cond b m (a .time f)) (eqb-swap f (r .field)) ∙ pick (eqb (r .field) f) m (a .time f)
     set false = refl
 
-module _ (c : Line → Bool) where
+module _ (p : List ℕ) (c : Line → Bool) where
   -- no line is younger than the list
-  pub born-old : (ls : List Line) (x : ℕ) → seen c ls x .tag .born ≤ length ls
+  pub born-old : (ls : List Line) (x : ℕ) → seen p c ls x .tag .born ≤ length ls
   unfolding seen bornAt
   born-old [] x = omega arith
   born-old (l ∷ ls) x = let h = born-old ls x in by-bool (c l)
-      (λ e. rw (e, born-after (suc (length ls)) (l .entry) x (seen c ls x .tag)) (by-bool (makesOrFrees (l .entry) x) (λ k. rw k (omega arith)) (λ k. rw k (omega arith))))
+      (λ e. rw (e, born-after (suc (length ls)) (l .entry) x (seen p c ls x .tag)) (by-bool (makesOrFrees (l .entry) x) (λ k. rw k (omega arith)) (λ k. rw k (omega arith))))
       (λ e. rw e (omega arith))
 
-  pub time-old : (ls : List Line) (x f : ℕ) → seen c ls x .tag .time f ≤ length ls
+  pub time-old : (ls : List Line) (x f : ℕ) → seen p c ls x .tag .time f ≤ length ls
   unfolding seen bornAt
   time-old [] x f = omega arith
   time-old (l ∷ ls) x f = let h = time-old ls x f in by-bool (c l)
-      (λ e. rw (e, time-after (suc (length ls)) (l .entry) x f (seen c ls x .tag)) (by-bool (writes (l .entry) x f) (λ k. rw k (omega arith)) (λ k. rw k (omega arith))))
+      (λ e. rw (e, time-after (suc (length ls)) (l .entry) x f (seen p c ls x .tag)) (by-bool (writes (l .entry) x f) (λ k. rw k (omega arith)) (λ k. rw k (omega arith))))
       (λ e. rw e (omega arith))
 
   -- the law, both ways
-  pub unbroken-tag : (ls : List Line) (o f x : ℕ) → unbroken (filtered c ls) o f x ≡ true → seen c ls x .tag .born ≤ seen c ls o .tag .time f
+  pub unbroken-tag : (ls : List Line) (o f x : ℕ) → unbroken (filtered c ls) o f x ≡ true → seen p c ls x .tag .born ≤ seen p c ls o .tag .time f
   unfolding seen bornAt filtered unbroken
   unbroken-tag [] o f x h = omega arith
   unbroken-tag (l ∷ ls) o f x h = let a = born-old ls x in by-bool (c l)
-      (λ e. rw (e, born-after (suc (length ls)) (l .entry) x (seen c ls x .tag), time-after (suc (length ls)) (l .entry) o f (seen c ls o .tag)) (by-bool (writes (l .entry) o f)
+      (λ e. rw (e, born-after (suc (length ls)) (l .entry) x (seen p c ls x .tag), time-after (suc (length ls)) (l .entry) o f (seen p c ls o .tag)) (by-bool (writes (l .entry) o f)
       (λ w. rw w (by-bool (makesOrFrees (l .entry) x) (λ k. rw k (omega arith)) (λ k. rw k (omega arith))))
       (λ w. rw w (by-bool (makesOrFrees (l .entry) x)
       (λ k. clash (rw (e, w, k) at h) refl)
       (λ k. rw k (unbroken-tag ls o f x (rw (e, w, k) at h)))))))
       (λ e. rw e (unbroken-tag ls o f x (rw e at h)))
 
-  pub tag-unbroken : (ls : List Line) (o f x : ℕ) → seen c ls x .tag .born ≤ seen c ls o .tag .time f → unbroken (filtered c ls) o f x ≡ true
+  pub tag-unbroken : (ls : List Line) (o f x : ℕ) → seen p c ls x .tag .born ≤ seen p c ls o .tag .time f → unbroken (filtered c ls) o f x ≡ true
   unfolding seen bornAt filtered unbroken
   tag-unbroken [] o f x h = refl
   tag-unbroken (l ∷ ls) o f x h = let a = time-old ls o f in by-bool (c l)
-      (λ e. let k = rw (e, born-after (suc (length ls)) (l .entry) x (seen c ls x .tag), time-after (suc (length ls)) (l .entry) o f (seen c ls o .tag)) at h in
+      (λ e. let k = rw (e, born-after (suc (length ls)) (l .entry) x (seen p c ls x .tag), time-after (suc (length ls)) (l .entry) o f (seen p c ls o .tag)) at h in
       rw (e, unbroken) (by-bool (writes (l .entry) o f)
       (λ w. rw w)
       (λ w. let j = rw w at k in rw w (by-bool (makesOrFrees (l .entry) x)

@@ -1,12 +1,13 @@
 -- The book's own invariant, and the pages that running transactions write. This serves the proof of demand 3; its claim never mentions it.
 -- Assumes nothing.
-use Prim.Native.Nat.{ℕ, _≤_, _<_}
+use Prim.Native.Nat.{ℕ, _*_, _≤_, _<_}
 use mathlib.Core.Path.{_≡_}
 use mathlib.Core.Bool.{Bool, true, false, not, _&&_, _||_}
 use mathlib.Core.List.{List, [], _∷_}
 use lib.ListN.{length}
 use lib.Dec.{eqb}
-use Rattle.pages.specs.Geometry.{pageOf}
+use Rattle.pages.specs.Geometry.{pageOf, pageWords}
+use Rattle.pages.specs.Soundness.{areaSound}
 use Rattle.records.specs.declared.Record.{Record}
 use Rattle.records.specs.Records.{isBegin, isChange, isEnd, isSweep, txnCount}
 use Rattle.records.specs.Soundness.{recordSound}
@@ -31,6 +32,19 @@ anyLine f (l ∷ ls) = f l || anyLine f ls
 -- the records of the lines are sound by themselves in a store of n pages
 abbrev pub SoundLines : ℕ → List Line → Type 0
 SoundLines n ls = Each (λ l. recordSound n (l .entry) ≡ true) ls
+
+-- the pages that a book of a store of n pages starts from
+pub record Origin (n : ℕ) (a : List ℕ) : Type 0 where
+  pub size : length a ≡ pageWords * n
+  pub sound : areaSound a n ≡ true
+
+-- both, and of a book
+pub record SoundFrom (n : ℕ) (a : List ℕ) (ls : List Line) : Type 0 where
+  pub origin : Origin n a
+  pub lines : SoundLines n ls
+
+abbrev pub SoundBook : ℕ → Book → Type 0
+SoundBook n b = SoundFrom n (b .origin) (b .lines)
 
 -- transaction t runs
 abbrev pub Runs : Book → ℕ → Type 0

@@ -4,12 +4,11 @@ use Prim.Native.Nat.{ℕ, suc}
 use mathlib.Core.Bool.{Bool, not, _&&_, _||_}
 use mathlib.Core.List.{List, [], _∷_}
 use lib.ListN.{length}
-use lib.Dec.{eqb}
 use Rattle.words.specs.Tests.{if}
 use Rattle.records.specs.declared.Record.{Record}
 use Rattle.records.specs.Records.{isSweep}
-use Rattle.collector.specs.Objects.{Obj, Tag, blank, fresh, bornAt, stamp}
-use Rattle.machine_view.specs.View.{names, applied}
+use Rattle.collector.specs.Objects.{Obj, Tag, bornAt, stamp}
+use Rattle.machine_view.specs.View.{view, names, applied}
 use Rattle.book.specs.Lines.{Line, hasCommit, filtered}
 use Rattle.book.specs.Books.{Book, countsCommitted, countsFull}
 use Rattle.book.specs.Pointers.{makesOrFrees}
@@ -34,27 +33,27 @@ pub record Seen : Type 0 where
   pub object : Obj
   pub tag : Tag
 
--- object x in the formatted pages
-abbrev pub first : ℕ → Seen
-first x = record { object = if (eqb x 1) fresh blank; tag = bornAt 0 }
+-- object x in the pages that a book starts from
+abbrev pub first : List ℕ → ℕ → Seen
+first a x = record { object = view a x; tag = bornAt 0 }
 
 -- object x after line m with this record
 abbrev pub acted : ℕ → Record → ℕ → Seen → Seen
 acted m r x v = record { object = applied r x (v .object); tag = tagged m r x (v .tag) }
 
--- object x after the lines that pass the test. A line's number is 1 and the number of older lines, whether these pass or not.
-unfoldable pub seen : (Line → Bool) → List Line → ℕ → Seen
-seen c [] x = first x
-seen c (l ∷ ls) x = let v = seen c ls x in let w = acted (suc (length ls)) (l .entry) x v in if (c l) w v
+-- object x after the lines that pass the test, from pages a on. A line's number is 1 and the number of older lines, whether these pass or not.
+unfoldable pub seen : List ℕ → (Line → Bool) → List Line → ℕ → Seen
+seen a c [] x = first a x
+seen a c (l ∷ ls) x = let v = seen a c ls x in let w = acted (suc (length ls)) (l .entry) x v in if (c l) w v
 
 -- in the committed state and in the full pages
 abbrev pub seenCommitted : Book → ℕ → Seen
-seenCommitted b x = seen (countsCommitted b) (b .lines) x
+seenCommitted b x = seen (b .origin) (countsCommitted b) (b .lines) x
 
 abbrev pub seenFull : Book → ℕ → Seen
-seenFull b x = seen (countsFull b) (b .lines) x
+seenFull b x = seen (b .origin) (countsFull b) (b .lines) x
 
 -- object x after lines that all count
-unfoldable pub made : List Line → ℕ → Obj
-made [] x = first x .object
-made (l ∷ ls) x = applied (l .entry) x (made ls x)
+unfoldable pub made : List ℕ → List Line → ℕ → Obj
+made a [] x = view a x
+made a (l ∷ ls) x = applied (l .entry) x (made a ls x)

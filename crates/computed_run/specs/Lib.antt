@@ -1,2 +1,3 @@
--- A list of calls and cuts with its book, computed.
+-- Lists of calls and cuts with their books, computed.
 pub mod Run
+pub mod Broken

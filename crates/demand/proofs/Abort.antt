@@ -44,7 +44,7 @@ use Rattle.recovery_proof.proofs.Rolling.{Undoable, changes-undoable, Kept, app
 use Rattle.recovery_proof.proofs.Steps.{logOf, log-abort}
 use Rattle.book_laws.specs.Seen.{Seen, seenCommitted, seenFull}
 use Rattle.book_laws.specs.Striking.{entries, undoingOnto}
-use Rattle.book_laws.specs.Keeping.{Runs, SoundLines, changesSince}
+use Rattle.book_laws.specs.Keeping.{Runs, SoundBook, changesSince}
 use Rattle.book_laws.specs.After.{abortedBy}
 use Rattle.book_laws.proofs.Members.{each-cons}
 use Rattle.book_laws.proofs.Ends.{unended}
@@ -110,7 +110,7 @@ module _ (n : ℕ) (some : 1 ≤ n) (s : Areas) (b : Book) (i : OpenInv n s b) (
       sound = i .log .order;
       size = h .sized .received-len;
       small = small-sound n (s .received) (h .ranged .received-sound);
-      shown = λ x. sym (full-shown n some s b i x) ∙ sym (i .log .inv .full x);
+      shown = λ x. sym (full-shown n s b i x) ∙ sym (i .log .inv .full x);
     };
     room = let e = h .sized .log-len in let r = f .room in omega arith;
     counted = let e = h .sized .counts-len in omega arith;
@@ -164,6 +164,7 @@ module _ (n : ℕ) (some : 1 ≤ n) (s : Areas) (b : Book) (i : OpenInv n s b) (
         ∙ (let m = many in let e : left (b .running t) (b .lines) ≡ length cs + 0 = omega arith in ap (λ (j : ℕ). drop j (undoingOnto cs (received s))) e ∙ drop-onto cs (received s) 0);
     order = kept .logged .sound;
     stored = rolled-rest (s .log) (changesOf s t) s .0;
+    origin = refl;
     stable-lines = refl;
     lines = abort-length b (i .book) t run;
     same = same;
@@ -191,13 +192,13 @@ module _ (n : ℕ) (some : 1 ≤ n) (s : Areas) (b : Book) (i : OpenInv n s b) (
   copied x = copies-after x ∙ by-bool (own x) (λ e. rw e (received-after x ∙ rw e refl)) (λ e. rw e refl)
 
   committed-same : (x : ℕ) → seenCommitted b′ x ≡ seenCommitted b x
-  committed-same x = abort-committed b (i .book) t run .shows x
+  committed-same x = abort-committed b (i .book) t run .shows (b .origin) x
 
   mixed : (x : ℕ) → (seenFull b′ x .object ≡ mix own K F x) × (seenFull b′ x .tag ≡ mix own (λ o. seenCommitted b o .tag) (λ o. seenFull b o .tag) x)
   mixed x = picked (locksOf (s .work) n .wr) t (seenCommitted b) (seenFull b) x (seenFull b′ x) (abort-full b (i .book) (locksOf (s .work) n .wr) (i .writers) t run x)
 
-  sound-after : SoundLines n (b′ .lines)
-  sound-after = each-cons (aborted-sound n t (f .txn)) (undone-sound n (b .running t) (b .lines) (i .sound))
+  sound-after : SoundBook n b′
+  sound-after = record { origin = i .sound .origin; lines = each-cons (aborted-sound n t (f .txn)) (undone-sound n (b .running t) (b .lines) (i .sound .lines)) }
 
   -- the collector's state then
   abbrev st : St
@@ -238,7 +239,7 @@ module _ (n : ℕ) (some : 1 ≤ n) (s : Areas) (b : Book) (i : OpenInv n s b) (
     collector = collector-after;
     book = abort-inv b (i .book) t run;
     sound = sound-after;
-    full = full-ext n some b′ sound-after (a .received) (kept .logged .size) (kept .logged .small) (λ x. received-after x ∙ sym (mixed x .0));
+    full = full-ext n b′ sound-after (a .received) (kept .logged .size) (kept .logged .small) (λ x. received-after x ∙ sym (mixed x .0));
     known = end-known n s b i (h .sized .tables .1) t (f .txn) b′ refl refl;
     active = end-active n s b i (h .sized .tables .1) t (f .txn) b′ refl refl;
     runs = end-runs n s b i (h .sized .tables .1) t (f .txn) b′ refl refl;

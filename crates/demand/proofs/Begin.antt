@@ -71,7 +71,7 @@ module _ (n : ℕ) (some : 1 ≤ n) (s : Areas) (b : Book) (i : OpenInv n s b) (
   idle = elim (ℕ-discrete (b .running t) 0) [ yes e ↦ e | no e ↦ clash (i .runs t e) act ]
 
   committed-same : (x : ℕ) → seenCommitted b′ x ≡ seenCommitted b x
-  committed-same x = begin-committed b (i .book) t (f .txn) idle .shows x
+  committed-same x = begin-committed b (i .book) t (f .txn) idle .shows (b .origin) x
 
   full-same : (x : ℕ) → seenFull b′ x ≡ seenFull b x
   full-same x = begin-full b (i .book) t (f .txn) idle x
@@ -124,6 +124,7 @@ module _ (n : ℕ) (some : 1 ≤ n) (s : Areas) (b : Book) (i : OpenInv n s b) (
   unfolding effect
   bounding = record {
     entry = refl;
+    origin = refl;
     lines = refl;
     stable = refl;
     room = let q = f .room in omega arith;

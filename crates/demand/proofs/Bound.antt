@@ -20,7 +20,7 @@ use Rattle.recovery_proof.proofs.Decided.{same-longer}
 use Rattle.recovery_proof.proofs.Maps.{small-sound}
 use Rattle.recovery_proof.proofs.Steps.{logOf}
 use Rattle.book_laws.specs.Seen.{seenCommitted, seenFull}
-use Rattle.book_laws.specs.Keeping.{SoundLines}
+use Rattle.book_laws.specs.Keeping.{SoundBook}
 use Rattle.book_laws.proofs.Members.{each-cons}
 use Rattle.demand.proofs.State.{machine, received, LogInv, OpenInv}
 use Rattle.demand.proofs.OneRecord.{Appends, log-after}
@@ -31,6 +31,7 @@ use Rattle.records.specs.Records.{txnCount}
 -- record r with its line l; w: the working words after it, b′: the book
 pub record Bounding (n : ℕ) (s : Areas) (b : Book) (r : Record) (l : Line) (w : List ℕ) (b′ : Book) : Type 0 where
   pub entry : l .entry ≡ r
+  pub origin : b′ .origin ≡ b .origin
   pub lines : b′ .lines ≡ l ∷ b .lines
   pub stable : b′ .stable ≡ b .stable
   pub room : receivedCount s + 1 ≤ records s
@@ -44,13 +45,13 @@ module _ (n : ℕ) (some : 1 ≤ n) (s : Areas) (b : Book) (i : OpenInv n s b) (
   abbrev s′ : Areas
   s′ = withWork (appended s r) w
 
-  pub bound-sound : SoundLines n (b′ .lines)
-  bound-sound = rw (c .lines) (each-cons (rw (c .entry) (c .ok)) (i .sound))
+  pub bound-sound : SoundBook n b′
+  bound-sound = record { origin = rw (c .origin) (i .sound .origin); lines = rw (c .lines) (each-cons (rw (c .entry) (c .ok)) (i .sound .lines)) }
 
-  pub bound-full : s′ .received ≡ fullPages n b′
+  pub bound-full : s′ .received ≡ fullPages b′
   unfolding appended
-  bound-full = c .still ∙ full-ext n some b′ bound-sound (s .received) (h .sized .received-len) (small-sound n (s .received) (h .ranged .received-sound))
-      (λ x. sym (full-shown n some s b i x) ∙ sym (c .full x))
+  bound-full = c .still ∙ full-ext n b′ bound-sound (s .received) (h .sized .received-len) (small-sound n (s .received) (h .ranged .received-sound))
+      (λ x. sym (full-shown n s b i x) ∙ sym (c .full x))
 
   appends : Appends n s b r l s′ b′
   unfolding appended
@@ -59,6 +60,7 @@ module _ (n : ℕ) (some : 1 ≤ n) (s : Areas) (b : Book) (i : OpenInv n s b) (
     log = refl;
     counts = refl;
     stored = refl;
+    origin = c .origin;
     lines = c .lines;
     stable = c .stable;
     room = c .room;
@@ -69,4 +71,4 @@ module _ (n : ℕ) (some : 1 ≤ n) (s : Areas) (b : Book) (i : OpenInv n s b) (
   pub bound-log : Recovery.Inv (i .base) (logOf (λ x. seenFull b′ x .object) (λ x. seenCommitted b′ x .object) (locksOf w n .wr) (locksOf w n .act) (r ∷ received s))
       → Collector.Inv (machine n s′ b′) → LogInv n s′ b′ (i .base)
   unfolding appended
-  bound-log j m = log-after n some s b (i .base) (i .log) h r l s′ b′ appends j m bound-sound (c .opens) (same-longer (r ∷ []) (received s) (i .log .copies))
+  bound-log j m = log-after n s b (i .base) (i .log) h r l s′ b′ appends j m bound-sound (c .opens) (same-longer (r ∷ []) (received s) (i .log .copies))

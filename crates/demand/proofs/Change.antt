@@ -35,7 +35,7 @@ use Rattle.recovery_proof.proofs.Decided.{SameCells, same-longer}
 use Rattle.recovery_proof.proofs.Reversal.{Change}
 use Rattle.recovery_proof.proofs.Steps.{logOf, log-change}
 use Rattle.book_laws.specs.Seen.{Seen, acted, seenCommitted, seenFull}
-use Rattle.book_laws.specs.Keeping.{SoundLines, Runs, BookInv, Writers, openly}
+use Rattle.book_laws.specs.Keeping.{SoundBook, Runs, BookInv, Writers, openly}
 use Rattle.book_laws.proofs.Members.{each-cons}
 use Rattle.book_laws.proofs.Committed.{filtered-same}
 use Rattle.book_laws.proofs.Running.{runs-it}
@@ -50,8 +50,8 @@ pub machine-shows : (n : ℕ) (s : Areas) (b : Book) → Shows (s .work) n (mach
 machine-shows n s b = record { count = refl; locks = refl; tables = refl; pass = refl }
 
 -- the received pages show the full objects
-pub full-shown : (n : ℕ) → 1 ≤ n → (s : Areas) (b : Book) → OpenInv n s b → (x : ℕ) → seenFull b x .object ≡ view (s .received) x
-full-shown n some s b i x = sym (full-view n some b (i .sound) x) ∙ ap (λ (a : List ℕ). view a x) (sym (i .full))
+pub full-shown : (n : ℕ) (s : Areas) (b : Book) → OpenInv n s b → (x : ℕ) → seenFull b x .object ≡ view (s .received) x
+full-shown n s b i x = sym (full-view n b (i .sound) x) ∙ ap (λ (a : List ℕ). view a x) (sym (i .full))
 
 -- what a create and a set are not
 record Plain (r : Record) : Type 0 where
@@ -81,7 +81,7 @@ abbrev pub areasAfter : Areas → Record → List ℕ → Areas
 areasAfter s r w = withWork (appended s r) w
 
 abbrev pub bookAfter : Book → ℕ → Record → (ℕ → ℕ → Bool) → Book
-bookAfter b t r k = record { lines = line r (b .running t) ∷ b .lines; stable = b .stable; begun = b .begun; running = b .running; known = k; stage = b .stage }
+bookAfter b t r k = record { origin = b .origin; lines = line r (b .running t) ∷ b .lines; stable = b .stable; begun = b .begun; running = b .running; known = k; stage = b .stage }
 
 -- t's record r, which can be taken back, on a page that t writes; w: the working words after it
 pub record Changing (n : ℕ) (s : Areas) (b : Book) (t : ℕ) (r : Record) (w : List ℕ) : Type 0 where
@@ -122,7 +122,7 @@ module _ (n : ℕ) (some : 1 ≤ n) (s : Areas) (b : Book) (i : OpenInv n s b) (
 
   -- what the book shows
   committed-same : (x : ℕ) → seenCommitted b′ x ≡ seenCommitted b x
-  committed-same x = adds-committed b (i .book) t change-runs r (is .commits) (is .sweeps) .shows x
+  committed-same x = adds-committed b (i .book) t change-runs r (is .commits) (is .sweeps) .shows (b .origin) x
 
   full-after : (x : ℕ) → seenFull b′ x ≡ acted (suc (length (b .lines))) r x (seenFull b x)
   unfolding runs
@@ -141,12 +141,12 @@ module _ (n : ℕ) (some : 1 ≤ n) (s : Areas) (b : Book) (i : OpenInv n s b) (
   full-lines = filtered-on (countsFull b′) (line r (b .running t)) (b .lines) new-counts
       ∙ ap (λ (ls : List Line). line r (b .running t) ∷ ls) (filtered-same (countsFull b′) (countsFull b) (b .lines) (λ l j. counts l))
 
-  received-shown : s′ .received ≡ fullPages n b′
+  received-shown : s′ .received ≡ fullPages b′
   unfolding appended pagesAfter
-  received-shown = ap (λ (a : List ℕ). effect a r) (i .full) ∙ sym (ap (pagesAfter n) full-lines)
+  received-shown = ap (λ (a : List ℕ). effect a r) (i .full) ∙ sym (ap (pagesAfter (b .origin)) full-lines)
 
-  sound-after : SoundLines n (b′ .lines)
-  sound-after = each-cons (c .ok) (i .sound)
+  sound-after : SoundBook n b′
+  sound-after = record { origin = i .sound .origin; lines = each-cons (c .ok) (i .sound .lines) }
 
   -- the collector's part: st shows the words, and these objects with their lines
   pub collector-after : (st : St) → Shows w n st → Collector.Inv st → (F : ℕ → Obj) (G : ℕ → Tag)
@@ -177,6 +177,7 @@ module _ (n : ℕ) (some : 1 ≤ n) (s : Areas) (b : Book) (i : OpenInv n s b) (
     log = refl;
     counts = refl;
     stored = refl;
+    origin = refl;
     lines = refl;
     stable = refl;
     room = let q = c .room in omega arith;
@@ -225,5 +226,5 @@ module _ (n : ℕ) (some : 1 ≤ n) (s : Areas) (b : Book) (i : OpenInv n s b) (
     runs = λ u e. act-same u ∙ i .runs u e;
     writers = writers-after;
     base = i .base;
-    log = log-after n some s b (i .base) (i .log) h r (line r (b .running t)) s′ b′ appends inv-after m sound-after open-after copies-after;
+    log = log-after n s b (i .base) (i .log) h r (line r (b .running t)) s′ b′ appends inv-after m sound-after open-after copies-after;
   }

@@ -82,6 +82,7 @@ module _ (n : ℕ) (some : 1 ≤ n) (s : Areas) (b : Book) (i : OpenInv n s b) (
   unfolding effect
   bounding = record {
     entry = refl;
+    origin = refl;
     lines = refl;
     stable = refl;
     room = f .room;

@@ -57,7 +57,7 @@ module _ (n : ℕ) (some : 1 ≤ n) (s : Areas) (b : Book) (i : OpenInv n s b) (
   not-root e = clash (sound-facts (s .received) n (h .ranged .received-sound) .rooted) (ap (occupied (s .received)) (sym e) ∙ f .free)
 
   was-blank : seenFull b o .object ≡ blank
-  was-blank = full-shown n some s b i o
+  was-blank = full-shown n s b i o
       ∙ view-free (s .received) o (f .object .low) (f .free) (λ k l. free-zero (s .received) n o (h .ranged .received-sound) (f .object .low) (f .object .top) k l (f .free))
 
   changing : Changing n s b t (createOf t o) w
@@ -75,7 +75,7 @@ module _ (n : ℕ) (some : 1 ≤ n) (s : Areas) (b : Book) (i : OpenInv n s b) (
 
   machine-kept : Collector.Inv (C.created (machine n s b) t o m)
   machine-kept = keep-create (machine n s b) t o m
-      (Facts.create-facts s n (machine n s b) (machine-shows n s b) t o m (full-shown n some s b i o) f (omega arith)) (i .collector)
+      (Facts.create-facts s n (machine n s b) (machine-shows n s b) t o m (full-shown n s b i o) f (omega arith)) (i .collector)
 
   -- what t knows
   knows : (u x : ℕ) → tablesOf w n .kn u x ≡ add (tablesOf (s .work) n .kn) t o u x

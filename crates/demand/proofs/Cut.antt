@@ -16,7 +16,7 @@ use Rattle.calls.specs.Formatting.{cut}
 use Rattle.book.specs.Books.{awaiting, Book, stopped}
 use Rattle.record_laws.specs.RecordLaws.{open-same}
 use Rattle.recovery_proof.proofs.Appending.{recs-same}
-use Rattle.book_laws.proofs.Folds.{zeros, zero-at}
+use Rattle.demand.proofs.Formatted.{zeros, zero-at}
 use Rattle.demand.proofs.State.{stable, Inv3, cut-store}
 use Rattle.demand.proofs.Stopping.{stops, inv-size, waiting-moved}
 
@@ -54,7 +54,7 @@ module _ (s : Areas) where
 
 pub cut-kept : (n : ℕ) → 1 ≤ n → (s : Areas) (b : Book) → Inv3 n s b → Inv3 n (cut s) (stopped awaiting b)
 unfolding cut
-cut-kept n some s b i = let w = stops n some s b awaiting i in cut-store (record {
+cut-kept n some s b i = let w = stops n s b awaiting i in cut-store (record {
   size = inv-size n s b i;
   stage = refl;
   word = zero-at (length (s .work)) 0;

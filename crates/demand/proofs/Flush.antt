@@ -51,7 +51,7 @@ module _ (n : ℕ) (some : 1 ≤ n) (s : Areas) (b : Book) (i : OpenInv n s b) (
 
   copies : (x : ℕ) → view c x ≡ mix here (λ y. seenFull b y .object) (view (s .copies)) x
   copies x = copied-view n (s .received) (s .copies) p (h .sized .received-len) (h .sized .copies-len) (f .page) x
-      ∙ ap (λ (v : Obj). mix here (λ y. v) (view (s .copies)) x) (sym (full-shown n some s b i x))
+      ∙ ap (λ (v : Obj). mix here (λ y. v) (view (s .copies)) x) (sym (full-shown n s b i x))
 
   flush-kept : OpenInv n (flushed s n t p) b
   unfolding flushed

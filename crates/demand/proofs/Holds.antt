@@ -20,7 +20,8 @@ use Rattle.acceptance.specs.Pass.{step-outcome, step-way, step-facts, StepWay, 
 use Rattle.book.specs.Books as Books
 use Rattle.book.specs.Books.{Book, committedLines, fullLines, committedPages, fullPages, countsFull, storing}
 use Rattle.book.specs.Demand.{Point, Holds, Spares, Reopens, accepts, reclaims}
-use Rattle.book.specs.Pointers.{Reached, Leads}
+use Rattle.book.specs.Pointers.{Leads}
+use Rattle.reach.specs.Reaching.{Reached}
 use Rattle.collector.specs.Bits.{true-and}
 use Rattle.collector.specs.Objects as O
 use Rattle.collector.specs.Objects.{Obj, Reach, edge}
@@ -120,17 +121,17 @@ module _ (n : ℕ) (some : 1 ≤ n) (s : Areas) (b : Book) (i : OpenInv n s b) w
   full-there O.root = i .collector .agreed .keeps 1 (i .collector .whole .wf 1 O.root)
   full-there (edge {o} {x} p h e) = safe .full .occupied o x p e
 
-  pub open-full : Leads (fullPages n b) (fullLines b)
+  pub open-full : Leads (fullPages b) (fullLines b)
   unfolding fullLines
-  open-full = leads-out n some (countsFull b) (b .lines) (i .sound) (safe .full) (λ x p. full-there p)
+  open-full = leads-out n (b .origin) (i .sound .origin) (countsFull b) (b .lines) (i .sound .lines) (safe .full) (λ x p. full-there p)
 
-  pub open-committed : Leads (committedPages n b) (committedLines b)
+  pub open-committed : Leads (committedPages b) (committedLines b)
   unfolding committedLines committedOf
   open-committed = i .log .leads 0 (omega arith)
 
-  reached-committed : {x : ℕ} → Reached (committedPages n b) x → Reach (λ y. seenCommitted b y .object) x
+  reached-committed : {x : ℕ} → Reached (committedPages b) x → Reach (λ y. seenCommitted b y .object) x
   unfolding committedLines
-  reached-committed p = Rattle.demand.proofs.Pointing.to-reach n some (Rattle.book.specs.Books.countsCommitted b) (b .lines) (i .sound) (i .collector .whole .wf) p
+  reached-committed p = Rattle.demand.proofs.Pointing.to-reach n (b .origin) (i .sound .origin) (Rattle.book.specs.Books.countsCommitted b) (b .lines) (i .sound .lines) (i .collector .whole .wf) p
 
   pub open-spares : Spares n (record { store = s; book = b })
   open-spares = record {

@@ -30,7 +30,7 @@ pub idle-full : (b : Book) → ((t : ℕ) → b .running t ≡ 0) → fullLines 
 unfolding fullLines committedLines
 idle-full b h = filtered-same (countsFull b) (countsCommitted b) (b .lines) (λ l i. rw (runs-none b (l .owner) h, and-false (not (l .struck))) (or-false (countsCommitted b l)))
 
-pub waiting-full : (n : ℕ) (s : Areas) (b : Book) → Waiting n s b → Leads (fullPages n b) (fullLines b)
+pub waiting-full : (n : ℕ) (s : Areas) (b : Book) → Waiting n s b → Leads (fullPages b) (fullLines b)
 waiting-full n s b w = rw (idle-full b (w .idle)) (w .leads)
 
 -- no pass step is accepted before the reopening is finished
@@ -81,8 +81,8 @@ module _ (n : ℕ) (some : 1 ≤ n) (s : Areas) (b : Book) (k : ℕ) (i : Storin
   last : k ≡ n → restepped s n ≡ reopeningOver s
   last e = let p : at (s .work) reopeningPageAt ≡ n = i .page ∙ e in rw (p, le-ltb n n (omega arith)) refl
 
-  all-stored : k ≡ n → Entered false true s n → s .stored ≡ committedPages n b
-  all-stored e h = ext-getD 0 (s .stored) (committedPages n b) (h .sized .stored-len ∙ sym (committed-length n some b (i .waiting .sound))) (λ j l. i .stored j (let q = h .sized .stored-len in rw e (omega arith)))
+  all-stored : k ≡ n → Entered false true s n → s .stored ≡ committedPages b
+  all-stored e h = ext-getD 0 (s .stored) (committedPages b) (h .sized .stored-len ∙ sym (committed-length n b (i .waiting .sound))) (λ j l. i .stored j (let q = h .sized .stored-len in rw e (omega arith)))
 
   pub storing-reopens : Reopens n (record { store = s; book = b })
   unfolding perform reopeningOver

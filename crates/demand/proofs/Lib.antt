@@ -1,4 +1,5 @@
 -- The proof of demand 3.
+pub mod Formatted
 pub mod State
 pub mod Pointing
 pub mod Holds
@@ -26,6 +27,7 @@ pub mod Flush
 pub mod Passing
 pub mod Stability
 pub mod Stopping
+pub mod Recovered
 pub mod Cut
 pub mod Reopen
 pub mod Rest

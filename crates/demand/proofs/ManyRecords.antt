@@ -35,6 +35,7 @@ pub record Many (n : ℕ) (s : Areas) (b : Book) (base : ℕ → Obj) (k : ℕ) 
   pub order : logSound n (s′ .log) (receivedCount s′) ≡ true
   pub stored : s′ .stored ≡ s .stored
   -- the book
+  pub origin : b′ .origin ≡ b .origin
   pub stable-lines : b′ .stable ≡ b .stable
   pub lines : length (b′ .lines) ≡ k + length (b .lines)
   pub same : entries (take (receivedCount s′) (b′ .lines)) ≡ received s′
@@ -61,15 +62,15 @@ module _ (n : ℕ) (s : Areas) (b : Book) (base : ℕ → Obj) (i : LogInv n s b
   within j d l e = let p = m .count in let q = m .stable-count in let r = i .stable-few in omega arith
 
   parts : (j : ℕ) → j ≤ receivedCount s′ - stableCount s′ → (x : ℕ)
-      → Log.book base x Log.nobody (shapes (drop j (received s′))) ≡ seen (counted (drop j (b′ .lines))) (drop j (b′ .lines)) x .object
-  parts j l x = cut j
-      (λ h. m .muted j h x ∙ i .inv .booked x ∙ sym (ap (λ (v : Seen). v .object) (m .part j h .shows x)))
-      (λ d e. rw (e, received-before d) (i .part d (within j d l e) x ∙ sym (ap (λ (v : Seen). v .object) (m .before d .shows x))))
+      → Log.book base x Log.nobody (shapes (drop j (received s′))) ≡ seen (b′ .origin) (counted (drop j (b′ .lines))) (drop j (b′ .lines)) x .object
+  parts j l x = rw (m .origin) (cut j
+      (λ h. m .muted j h x ∙ i .inv .booked x ∙ sym (ap (λ (v : Seen). v .object) (m .part j h .shows (b .origin) x)))
+      (λ d e. rw (e, received-before d) (i .part d (within j d l e) x ∙ sym (ap (λ (v : Seen). v .object) (m .before d .shows (b .origin) x)))))
 
-  all-lead : (j : ℕ) → j ≤ receivedCount s′ - stableCount s′ → Leads (pagesAfter n (committedOf (drop j (b′ .lines)))) (committedOf (drop j (b′ .lines)))
-  all-lead j l = cut j
+  all-lead : (j : ℕ) → j ≤ receivedCount s′ - stableCount s′ → Leads (pagesAfter (b′ .origin) (committedOf (drop j (b′ .lines)))) (committedOf (drop j (b′ .lines)))
+  all-lead j l = rw (m .origin) (cut j
       (λ h. rw (m .part j h .lines) (i .leads 0 (omega arith)))
-      (λ d e. rw (e, m .before d .lines) (i .leads d (within j d l e)))
+      (λ d e. rw (e, m .before d .lines) (i .leads d (within j d l e))))
 
   pub log-many : Recovery.Inv base (logged n s′ b′)
       → ((t : ℕ) → t < txnCount → bit (openIn (s′ .log) (receivedCount s′)) t ≡ locksOf (s′ .work) n .act t)

@@ -16,6 +16,7 @@ pub record Quiet (s : Areas) (b : Book) (s′ : Areas) (b′ : Book) : Type 0 wh
   pub counts : s′ .counts ≡ s .counts
   pub stored : s′ .stored ≡ s .stored
   pub lines : b′ .lines ≡ b .lines
+  pub origin : b′ .origin ≡ b .origin
   pub stable-lines : b′ .stable ≡ b .stable
   pub running : b′ .running ≡ b .running
 
@@ -29,8 +30,8 @@ module _ (n : ℕ) (s : Areas) (b : Book) (base : ℕ → Obj) (i : LogInv n s b
     stable-same = rw (q .counts, q .lines, q .stable-lines) (i .stable-same);
     order = rw (q .log, q .counts) (i .order);
     open-ones = λ t l. rw (q .log, q .counts) (i .open-ones t l ∙ sym (acts t));
-    part = rw (q .log, q .counts, q .lines) (i .part);
-    leads = rw (q .counts, q .lines) (i .leads);
+    part = rw (q .log, q .counts, q .origin, q .lines) (i .part);
+    leads = rw (q .counts, q .origin, q .lines) (i .leads);
     stored = rw (q .log, q .counts, q .stored) (i .stored);
     copies = rw (q .log, q .counts) copies;
   }

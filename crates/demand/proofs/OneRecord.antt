@@ -32,14 +32,14 @@ use Rattle.recovery_proof.proofs.Invariant as Recovery
 use Rattle.recovery_proof.proofs.Steps.{logOf}
 use Rattle.book_laws.specs.Seen.{counted, committedOf, seen, seenCommitted, seenFull}
 use Rattle.book_laws.specs.Striking.{entries}
-use Rattle.book_laws.specs.Keeping.{SoundLines}
+use Rattle.book_laws.specs.Keeping.{SoundBook}
 use Rattle.demand.proofs.State.{machine, received, stable, logged, LogInv}
 use Rattle.demand.proofs.Pointing.{leads-out}
 
 -- the committed pointers lead where the collector's invariant holds
-pub machine-leads : (n : ℕ) → 1 ≤ n → (s : Areas) (b : Book) → Collector.Inv (machine n s b) → SoundLines n (b .lines) → Leads (pagesAfter n (committedOf (b .lines))) (committedOf (b .lines))
+pub machine-leads : (n : ℕ) (s : Areas) (b : Book) → Collector.Inv (machine n s b) → SoundBook n b → Leads (pagesAfter (b .origin) (committedOf (b .lines))) (committedOf (b .lines))
 unfolding committedOf
-machine-leads n some s b i ok = leads-out n some (counted (b .lines)) (b .lines) ok (sound (machine n s b) i .committed) (i .whole .wf)
+machine-leads n s b i ok = leads-out n (b .origin) (ok .origin) (counted (b .lines)) (b .lines) (ok .lines) (sound (machine n s b) i .committed) (i .whole .wf)
 
 -- the records of a log with r behind the first c
 module _ (g : List ℕ) (c : ℕ) (r : Record) (long : recordWords * c + recordWords ≤ length g) where
@@ -61,13 +61,14 @@ pub record Appends (n : ℕ) (s : Areas) (b : Book) (r : Record) (l : Line) (s�
   pub log : s′ .log ≡ recorded (s .log) (receivedCount s) r
   pub counts : s′ .counts ≡ set (s .counts) 0 (receivedCount s + 1)
   pub stored : s′ .stored ≡ s .stored
+  pub origin : b′ .origin ≡ b .origin
   pub lines : b′ .lines ≡ l ∷ b .lines
   pub stable : b′ .stable ≡ b .stable
   pub room : receivedCount s + 1 ≤ records s
   pub ok : recordSound n r ≡ true
   pub order : inOrder (openIn (s .log) (receivedCount s)) r ≡ true
 
-module _ (n : ℕ) (some : 1 ≤ n) (s : Areas) (b : Book) (base : ℕ → Obj) (i : LogInv n s b base) (z : Open s n) (r : Record) (l : Line) (s′ : Areas) (b′ : Book)
+module _ (n : ℕ) (s : Areas) (b : Book) (base : ℕ → Obj) (i : LogInv n s b base) (z : Open s n) (r : Record) (l : Line) (s′ : Areas) (b′ : Book)
     (a : Appends n s b r l s′ b′) where
   long : recordWords * receivedCount s + recordWords ≤ length (s .log)
   long = let e = z .sized .log-len in let q = a .room in omega arith
@@ -90,18 +91,18 @@ module _ (n : ℕ) (some : 1 ≤ n) (s : Areas) (b : Book) (base : ℕ → Obj) 
       e ∙ sym received-more
 
   parts : Recovery.Inv base (logged n s′ b′) → (j : ℕ) → j ≤ receivedCount s′ - stableCount s′ → (x : ℕ)
-      → Log.book base x Log.nobody (shapes (drop j (received s′))) ≡ seen (counted (drop j (b′ .lines))) (drop j (b′ .lines)) x .object
+      → Log.book base x Log.nobody (shapes (drop j (received s′))) ≡ seen (b′ .origin) (counted (drop j (b′ .lines))) (drop j (b′ .lines)) x .object
   parts h zero k x = h .booked x
-  parts h (suc j) k x = rw (received-more, a .lines) (i .part j (let e = count in let d = stable-count in let m = i .stable-few in omega arith) x)
+  parts h (suc j) k x = rw (received-more, a .origin, a .lines) (i .part j (let e = count in let d = stable-count in let m = i .stable-few in omega arith) x)
 
-  all-lead : Collector.Inv (machine n s′ b′) → SoundLines n (b′ .lines) → (j : ℕ) → j ≤ receivedCount s′ - stableCount s′
-      → Leads (pagesAfter n (committedOf (drop j (b′ .lines)))) (committedOf (drop j (b′ .lines)))
-  all-lead h ok zero k = machine-leads n some s′ b′ h ok
-  all-lead h ok (suc j) k = rw (a .lines) (i .leads j (let e = count in let d = stable-count in let m = i .stable-few in omega arith))
+  all-lead : Collector.Inv (machine n s′ b′) → SoundBook n b′ → (j : ℕ) → j ≤ receivedCount s′ - stableCount s′
+      → Leads (pagesAfter (b′ .origin) (committedOf (drop j (b′ .lines)))) (committedOf (drop j (b′ .lines)))
+  all-lead h ok zero k = machine-leads n s′ b′ h ok
+  all-lead h ok (suc j) k = rw (a .origin, a .lines) (i .leads j (let e = count in let d = stable-count in let m = i .stable-few in omega arith))
 
   -- the log's part of the invariant after it
   pub log-after : Recovery.Inv base (logOf (λ x. seenFull b′ x .object) (λ x. seenCommitted b′ x .object) (locksOf (s′ .work) n .wr) (locksOf (s′ .work) n .act) (r ∷ received s))
-      → Collector.Inv (machine n s′ b′) → SoundLines n (b′ .lines)
+      → Collector.Inv (machine n s′ b′) → SoundBook n b′
       → ((t : ℕ) → t < txnCount → bit (openNext (openIn (s .log) (receivedCount s)) r) t ≡ locksOf (s′ .work) n .act t)
       → SameCells (r ∷ received s) (view (s′ .copies)) base
       → LogInv n s′ b′ base

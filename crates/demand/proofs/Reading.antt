@@ -53,7 +53,7 @@ open-learns n s b t f i h = open-noted n s b i (s .stored) (s .counts) (b .stabl
       | inr d ↦ ap (λ (v : ℕ). tablesOf (s .work) n .kn v x) (eqb-true u t e) ∙ h x d
     ])
     (λ e. i .known u x (rw e at k)))
-    (i .base) (log-quiet n s b (i .base) (i .log) s (learns b t f) (record { log = refl; counts = refl; stored = refl; lines = refl; stable-lines = refl; running = refl })
+    (i .base) (log-quiet n s b (i .base) (i .log) s (learns b t f) (record { log = refl; counts = refl; stored = refl; origin = refl; lines = refl; stable-lines = refl; running = refl })
     (i .log .inv) (λ u. refl) (i .log .copies))
 
 module _ (n : ℕ) (some : 1 ≤ n) (s : Areas) (b : Book) (i : OpenInv n s b) (h : Open s n) (t o : ℕ) (f : Accepted.ReadFacts s n t o) where
@@ -65,7 +65,7 @@ module _ (n : ℕ) (some : 1 ≤ n) (s : Areas) (b : Book) (i : OpenInv n s b) (
 
   -- what the tables know after it
   knows : (u x : ℕ) → tablesOf w n .kn u x ≡ C.readBy (machine n s b) t o .tables .kn u x
-  knows u x = rw (full-shown n some s b i o)
+  knows u x = rw (full-shown n s b i o)
       (ap (λ (a : Tables). a .kn u x) (read-tables (s .received) (s .work) n t o (h .ranged .received-sound) (f .object .low) (f .object .top) (h .sized .tables .1) (f .txn)))
 
   -- a reference of the received object is an edge of the machine: what is known is occupied
@@ -75,14 +75,14 @@ module _ (n : ℕ) (some : 1 ≤ n) (s : Areas) (b : Book) (i : OpenInv n s b) (
       let p = and-split (not (eqb x 0)) (any (λ g. isRef (s .received) o g && eqb (wordOf (s .received) o g) x) 8) r in
       any-elim (λ g. isRef (s .received) o g && eqb (wordOf (s .received) o g) x) 8 (p .1) (λ g l e.
       let q = and-split (isRef (s .received) o g) (eqb (wordOf (s .received) o g) x) e in
-      let v : seenFull b o .object .word g ≡ x = ap (λ (a : Obj). a .word g) (full-shown n some s b i o) ∙ view-word (s .received) o (f .object .low) g l ∙ eqb-true _ _ (q .1) in
+      let v : seenFull b o .object .word g ≡ x = ap (λ (a : Obj). a .word g) (full-shown n s b i o) ∙ view-word (s .received) o (f .object .low) g l ∙ eqb-true _ _ (q .1) in
       rw v at (word-edge (seenFull b o .object) g (q .0) (known-there (machine n s b) (i .collector) t o (facts .known)) (λ z. eqb-false x 0 (not-true (eqb x 0) (p .0)) (sym v ∙ z))))
 
   kept : OpenInv n (withWork s w) b
   kept = open-unlocked n s b i (s .copies) w (C.readBy (machine n s b) t o)
       (record {
         shows = read-shows (s .work) n (h .sized .tables .1) (machine n s b) (machine-shows n s b) t o (f .txn) (f .object .low) (f .object .top)
-            (s .received) (h .ranged .received-sound) (full-shown n some s b i o);
+            (s .received) (h .ranged .received-sound) (full-shown n s b i o);
         keeps = keep-read (machine n s b) t o facts (i .collector);
         pages = refl;
         tags = refl;

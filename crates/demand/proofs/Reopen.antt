@@ -27,19 +27,19 @@ use Rattle.demand.proofs.State.{Waiting, StoringInv, Inv3, reopening-st
 use Rattle.demand.proofs.HoldsWaiting.{idle-full}
 use Rattle.demand.proofs.Shared.{full-ext}
 use Rattle.demand.proofs.Stopping.{stops, inv-size, waiting-moved}
-use Rattle.book_laws.proofs.Folds.{zeros, zero-at}
+use Rattle.demand.proofs.Formatted.{zeros, zero-at}
 use Rattle.pages.specs.Soundness.{areaSound}
 use Rattle.pages.specs.Geometry.{pageWords}
 
 -- what reopening recovers is the committed state that the stop leaves
-pub recovered-committed : (n : ℕ) → 1 ≤ n → (s : Areas) (b : Book) → Inv3 n s b → length (s .stored) ≡ pageWords * n → areaSound (s .stored) n ≡ true
-    → recovered (s .stored) (s .log) (stableCount s) ≡ committedPages n (stopped (storing 0) b)
-recovered-committed n some s b i l sound =
-    let b′ = stopped (storing 0) b in let w = stops n some s b (storing 0) i in
-    full-ext n some b′ (w .sound) (recovered (s .stored) (s .log) (stableCount s)) (length-recovered (s .stored) (s .log) (stableCount s) ∙ l)
+pub recovered-committed : (n : ℕ) (s : Areas) (b : Book) → Inv3 n s b → length (s .stored) ≡ pageWords * n → areaSound (s .stored) n ≡ true
+    → recovered (s .stored) (s .log) (stableCount s) ≡ committedPages (stopped (storing 0) b)
+recovered-committed n s b i l sound =
+    let b′ = stopped (storing 0) b in let w = stops n s b (storing 0) i in
+    full-ext n b′ (w .sound) (recovered (s .stored) (s .log) (stableCount s)) (length-recovered (s .stored) (s .log) (stableCount s) ∙ l)
     (small-recovered n (s .stored) (s .log) (stableCount s) l (small-sound n (s .stored) sound) (w .order))
     (λ x. recovered-view n (s .stored) (s .log) (stableCount s) l (w .order) x ∙ w .gives x ∙ sym (ap (λ (v : Seen). v .object) (stop-one (storing 0) b x)))
-    ∙ ap (pagesAfter n) (idle-full b′ (w .idle))
+    ∙ ap (pagesAfter (b .origin)) (idle-full b′ (w .idle))
 
 module _ (n : ℕ) (some : 1 ≤ n) (s : Areas) (b : Book) (i : Inv3 n s b) (f : ReopenFacts s) where
   abbrev b′ : Book
@@ -52,7 +52,7 @@ module _ (n : ℕ) (some : 1 ≤ n) (s : Areas) (b : Book) (i : Inv3 n s b) (f :
   recovers = recoverable-facts n (s .stored) (s .log) (stableCount s) (rw (inv-size n s b i) at (f .recovers))
 
   waits : Waiting n s b′
-  waits = stops n some s b (storing 0) i
+  waits = stops n s b (storing 0) i
 
   stable-count : stableCount (reopened s) ≡ stableCount s
   unfolding reopened
@@ -78,8 +78,8 @@ module _ (n : ℕ) (some : 1 ≤ n) (s : Areas) (b : Book) (i : Inv3 n s b) (f :
     word = begun;
     page = clear 1 (omega arith);
     waiting = waiting-moved n s (reopened s) b′ (ap (recs (s .log)) stable-count) refl (rw stable-count (recovers .log-sound)) waits;
-    received = recovered-committed n some s b i (size .stored-len) (recovers .stored-sound);
-    copies = recovered-committed n some s b i (size .stored-len) (recovers .stored-sound);
+    received = recovered-committed n s b i (size .stored-len) (recovers .stored-sound);
+    copies = recovered-committed n s b i (size .stored-len) (recovers .stored-sound);
     counts = received-count ∙ sym stable-count;
     stored = λ j l. absurd (omega arith);
     clear = λ j l. clear j (omega arith);

@@ -1,6 +1,6 @@
 -- A store with nobody at work and an empty log, whose areas all show the committed state: after formatting, and after the last reopening
 -- step. n is the number of pages. Assumes nothing.
-use Prim.Native.Nat.{ℕ, suc, _*_, _-_, _≤_}
+use Prim.Native.Nat.{ℕ, suc, _-_, _≤_}
 use native.Mathlib.Omega.{arith}
 use mathlib.Core.Path.{_≡_, refl, sym, ap, _∙_}
 use mathlib.Core.Bool.{Bool, false, not}
@@ -34,7 +34,7 @@ use Rattle.recovery_proof.proofs.Decided.{SameCells}
 use Rattle.recovery_proof.proofs.Steps.{logOf, log-fresh}
 use Rattle.book_laws.specs.Seen.{Seen, committedOf, seenCommitted, seenFull}
 use Rattle.book_laws.specs.Striking.{entries}
-use Rattle.book_laws.specs.Keeping.{SoundLines, BookInv, openly}
+use Rattle.book_laws.specs.Keeping.{SoundBook, BookInv, openly}
 use Rattle.book_laws.proofs.Folds.{seen-agree}
 use Rattle.book_laws.proofs.Pages.{committed-view}
 use Rattle.book_laws.proofs.Running.{runs-none}
@@ -92,27 +92,27 @@ pub record Resting (n : ℕ) (s : Areas) (b : Book) : Type 0 where
   pub clear : (i : ℕ) → 2 ≤ i → at (s .work) i ≡ 0
   pub received-count : receivedCount s ≡ 0
   pub stable-count : stableCount s ≡ 0
-  pub stored : s .stored ≡ committedPages n b
-  pub copies : s .copies ≡ committedPages n b
-  pub received : s .received ≡ committedPages n b
+  pub stored : s .stored ≡ committedPages b
+  pub copies : s .copies ≡ committedPages b
+  pub received : s .received ≡ committedPages b
   pub book : BookInv b
-  pub sound : SoundLines n (b .lines)
+  pub sound : SoundBook n b
   pub idle : (t : ℕ) → b .running t ≡ 0
   pub forgot : (t x : ℕ) → b .known t x ≡ false
   pub all-stable : b .stable ≡ length (b .lines)
   pub whole : Whole (objectCount n) (suc (length (b .lines))) (λ x. seenCommitted b x .object) (λ x. seenCommitted b x .tag)
-  pub leads : Leads (committedPages n b) (committedLines b)
+  pub leads : Leads (committedPages b) (committedLines b)
 
 module _ (n : ℕ) (some : 1 ≤ n) (s : Areas) (b : Book) (r : Resting n s b) where
   abbrev base : ℕ → Obj
   base x = seenCommitted b x .object
 
   full-same : (x : ℕ) → seenFull b x ≡ seenCommitted b x
-  full-same x = seen-agree (countsFull b) (countsCommitted b) (b .lines) x
+  full-same x = seen-agree (b .origin) (countsFull b) (countsCommitted b) (b .lines) x
       (λ l i e. rw (runs-none b (l .owner) (r .idle), and-false (not (l .struck))) (or-false (countsCommitted b l)))
 
-  shows : (a : List ℕ) → a ≡ committedPages n b → (x : ℕ) → view a x ≡ base x
-  shows a e x = ap (λ (c : List ℕ). view c x) e ∙ committed-view n some b (r .sound) x
+  shows : (a : List ℕ) → a ≡ committedPages b → (x : ℕ) → view a x ≡ base x
+  shows a e x = ap (λ (c : List ℕ). view c x) e ∙ committed-view n b (r .sound) x
 
   -- the collector's part
   rest-machine : Collector.Inv (machine n s b)
@@ -128,7 +128,7 @@ module _ (n : ℕ) (some : 1 ≤ n) (s : Areas) (b : Book) (r : Resting n s b) w
   unfolding recs
   no-records = rw (r .received-count) refl
 
-  same-base : (a : List ℕ) → a ≡ committedPages n b → SameCells [] (view a) base
+  same-base : (a : List ℕ) → a ≡ committedPages b → SameCells [] (view a) base
   same-base a e = record { occ = λ x h. rw (shows a e x) refl; word = λ x f h. rw (shows a e x) refl }
 
   rest-inv : Recovery.Inv base (logged n s b)
@@ -164,7 +164,7 @@ module _ (n : ℕ) (some : 1 ≤ n) (s : Areas) (b : Book) (r : Resting n s b) w
     collector = rest-machine;
     book = r .book;
     sound = r .sound;
-    full = r .received ∙ sym (ap (pagesAfter n) (idle-full b (r .idle)));
+    full = r .received ∙ sym (ap (pagesAfter (b .origin)) (idle-full b (r .idle)));
     known = λ t x e. clash e (r .forgot t x);
     active = λ t e. clash e (act-none n (s .work) (r .clear) t);
     runs = λ t e. absurd (e (r .idle t));

@@ -41,7 +41,7 @@ module _ (n : ℕ) (some : 1 ≤ n) (s : Areas) (b : Book) (k : ℕ) (i : Storin
   -- where no stable record writes, the committed state is as stored
   copies-cells : SameCells (stable s) (view (s .copies)) (view (s .stored))
   copies-cells = same-eq (stable s) (view (s .copies)) (λ x. Log.undo x Log.everyone (shapes (stable s)) (Log.replay (view (s .stored)) x (shapes (stable s)))) (view (s .stored))
-      (λ x. ap (λ (a : List ℕ). view a x) (i .copies) ∙ committed-view n some b (i .waiting .sound) x ∙ sym (i .waiting .gives x))
+      (λ x. ap (λ (a : List ℕ). view a x) (i .copies) ∙ committed-view n b (i .waiting .sound) x ∙ sym (i .waiting .gives x))
       (same-trans (stable s) (undo-cells (stable s) Log.everyone (λ x. Log.replay (view (s .stored)) x (shapes (stable s)))) (replay-cells (stable s) (view (s .stored))))
 
   module _ (less : k < n) where
@@ -58,7 +58,7 @@ module _ (n : ℕ) (some : 1 ≤ n) (s : Areas) (b : Book) (k : ℕ) (i : Storin
         (same-mix (stable s) q (view (s .copies)) (view (s .stored)) (view (s .stored)) copies-cells (same-self (stable s) (view (s .stored))))
 
     -- one page more is as committed
-    stored-words : (j : ℕ) → j < pageWords * (k + 1) → at stored′ j ≡ at (committedPages n b) j
+    stored-words : (j : ℕ) → j < pageWords * (k + 1) → at stored′ j ≡ at (committedPages b) j
     stored-words j l =
         let f : pageAt k + pageWords ≤ length (s .copies) = let e = size .copies-len in omega arith in
         let t : pageAt k + pageWords ≤ length (s .stored) = let e = size .stored-len in omega arith in
@@ -99,7 +99,7 @@ module _ (n : ℕ) (some : 1 ≤ n) (s : Areas) (b : Book) (k : ℕ) (i : Storin
     }
 
   -- the last step
-  over-rests : s .stored ≡ committedPages n b → Resting n (reopeningOver s) (atStage b opened)
+  over-rests : s .stored ≡ committedPages b → Resting n (reopeningOver s) (atStage b opened)
   unfolding reopeningOver committedLines
   over-rests h = let w = i .waiting in record {
     size = i .size;
@@ -129,7 +129,7 @@ module _ (n : ℕ) (some : 1 ≤ n) (s : Areas) (b : Book) (k : ℕ) (i : Storin
     | no h ↦ (let z : k ≡ n = omega arith in
         let e : callRestep s .after ≡ reopeningOver s = g ∙ rw (i .page, le-ltb k n (omega arith)) refl in
         let d : stepped n (b .stage) ≡ opened = rw (i .stage, le-ltb k n (omega arith)) refl in
-        let c : s .stored ≡ committedPages n b = sym (ap (λ (x : Areas). x .stored) e) ∙ storing-reopens n some s b k i .stored a (i .stage ∙ ap storing z) in
+        let c : s .stored ≡ committedPages b = sym (ap (λ (x : Areas). x .stored) e) ∙ storing-reopens n some s b k i .stored a (i .stage ∙ ap storing z) in
         rw e (subst (λ (t : Stage). Inv3 n (reopeningOver s) (atStage b t)) (sym d) (open-store (rest-open n some (reopeningOver s) (atStage b opened) (over-rests c)))))
   ]
 

@@ -1,6 +1,6 @@
 -- What several calls share: choices by the pages that a transaction writes, and areas that show the full objects. n is the number of
 -- pages. Assumes nothing.
-use Prim.Native.Nat.{ℕ, _*_, _≤_}
+use Prim.Native.Nat.{ℕ, _*_}
 use mathlib.Core.Path.{_≡_, sym, ap, _∙_}
 use mathlib.Core.Bool.{Bool}
 use mathlib.Core.List.{List, [], _∷_}
@@ -12,9 +12,9 @@ use Rattle.book.specs.Books.{Book, countsFull, fullLines, fullPages}
 use Rattle.collector.specs.Objects.{pageOf}
 use Rattle.collector.specs.State.{mix}
 use Rattle.machine_view.specs.View.{view}
-use Rattle.recovery_proof.proofs.Maps.{Small, small-formatted, small-effect, area-ext}
+use Rattle.recovery_proof.proofs.Maps.{Small, small-sound, small-effect, area-ext}
 use Rattle.book_laws.specs.Seen.{Seen, seenFull}
-use Rattle.book_laws.specs.Keeping.{here, later, SoundLines}
+use Rattle.book_laws.specs.Keeping.{here, later, SoundLines, Origin, SoundBook}
 use Rattle.book_laws.proofs.Acts.{picked-object, picked-tag}
 use Rattle.book_laws.proofs.Folds.{after-length}
 use Rattle.book_laws.proofs.Pages.{full-view, full-length}
@@ -29,16 +29,15 @@ picked wr t A B x v e = (
   ap (λ (q : Seen). q .tag) e ∙ picked-tag (wr t (Geometry.pageOf x)) (A x) (B x),
 )
 
-module _ (n : ℕ) (some : 1 ≤ n) where
-  -- the pages after lines have maps of 16 bits
-  pub small-after : (c : Line → Bool) (ls : List Line) → SoundLines n ls → Small n (pagesAfter n (filtered c ls))
-  unfolding pagesAfter filtered
-  small-after c [] h = small-formatted n some
-  small-after c (l ∷ ls) h = let k : SoundLines n ls = λ m j. h m (later j) in by-bool (c l)
-      (λ e. rw e (small-effect n (pagesAfter n (filtered c ls)) (after-length n some c ls (λ m j d. k m j)) (l .entry) (h l here) (small-after c ls k)))
-      (λ e. rw e (small-after c ls k))
+-- the pages after lines have maps of 16 bits
+pub small-after : (n : ℕ) (a : List ℕ) → Origin n a → (c : Line → Bool) (ls : List Line) → SoundLines n ls → Small n (pagesAfter a (filtered c ls))
+unfolding pagesAfter filtered
+small-after n a o c [] h = small-sound n a (o .sound)
+small-after n a o c (l ∷ ls) h = let k : SoundLines n ls = λ m j. h m (later j) in by-bool (c l)
+    (λ e. rw e (small-effect n (pagesAfter a (filtered c ls)) (after-length n a (o .size) c ls (λ m j d. k m j)) (l .entry) (h l here) (small-after n a o c ls k)))
+    (λ e. rw e (small-after n a o c ls k))
 
-  pub full-ext : (b : Book) → SoundLines n (b .lines) → (a : List ℕ) → length a ≡ pageWords * n → Small n a → ((x : ℕ) → view a x ≡ seenFull b x .object) → a ≡ fullPages n b
-  unfolding fullLines
-  full-ext b ok a len small e = area-ext n a (fullPages n b) len (full-length n some b ok) small (small-after (countsFull b) (b .lines) ok)
-      (λ x. e x ∙ sym (full-view n some b ok x))
+pub full-ext : (n : ℕ) (b : Book) → SoundBook n b → (a : List ℕ) → length a ≡ pageWords * n → Small n a → ((x : ℕ) → view a x ≡ seenFull b x .object) → a ≡ fullPages b
+unfolding fullLines
+full-ext n b ok a len small e = area-ext n a (fullPages b) len (full-length n b ok) small (small-after n (b .origin) (ok .origin) (countsFull b) (b .lines) (ok .lines))
+    (λ x. e x ∙ sym (full-view n b ok x))

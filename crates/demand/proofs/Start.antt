@@ -1,12 +1,12 @@
 -- A freshly formatted store has the invariant. n is the number of pages, l the number of records. Assumes nothing.
-use Prim.Native.Nat.{ℕ, _≤_, _<_}
+use Prim.Native.Nat.{ℕ, _≤_}
 use native.Mathlib.Omega.{arith}
-use mathlib.Core.Path.{_≡_, refl, sym, ap, _∙_}
+use mathlib.Core.Path.{_≡_, refl, sym, _∙_}
 use mathlib.Core.Bool.{true}
 use mathlib.Core.List.{List, []}
 use lib.ListN.{length-replicate}
 use lib.Seq.{getD-set-same, getD-set-other}
-use Rattle.pages.specs.Objects.{wordOf, formattedPages}
+use Rattle.pages.specs.Objects.{formattedPages}
 use Rattle.records.specs.Soundness.{recordSound}
 use Rattle.areas.specs.Areas.{Areas}
 use Rattle.areas.specs.Layout.{workWords}
@@ -15,35 +15,28 @@ use Rattle.areas.specs.Entry.{pages, reopening}
 use Rattle.calls.specs.Formatting.{formatted}
 use Rattle.book.specs.Lines.{filtered, pagesAfter}
 use Rattle.book.specs.Books.{blank, countsCommitted, committedLines}
-use Rattle.book.specs.Pointers.{Reached, root, next, unbroken, Leads}
-use Rattle.collector.specs.Objects.{Obj}
-use Rattle.machine_view.proofs.Effects.{view-word}
-use Rattle.book_laws.proofs.Folds.{formatted-length, formatted-view}
+use Rattle.book.specs.Pointers.{unbroken, Leads}
+use Rattle.reach.specs.Reaching.{reached-some}
+use Rattle.book_laws.specs.Keeping.{Origin, SoundFrom}
 use Rattle.book_laws.proofs.Invariant.{blank-inv}
 use Rattle.book_laws.proofs.Members.{each-nil}
-use Rattle.demand.proofs.Pointing.{first-word}
+use Rattle.demand.proofs.Formatted.{zeros, zero-at, formatted-length, formatted-origin, no-word}
 use Rattle.demand.proofs.State.{Inv3, open-store}
 use Rattle.demand.proofs.Stopping.{whole-of}
-use Rattle.book_laws.proofs.Folds.{zeros, zero-at}
 use Rattle.demand.proofs.Rest.{Resting, rest-open}
-use Rattle.pages.specs.Geometry.{slotWords}
 
-reached-some : {a : List ℕ} {x : ℕ} → Reached a x → 1 ≤ x
-reached-some root = omega arith
-reached-some (next f p r) = let k = r .some in omega arith
+-- a book with no line is as sound as the pages that it starts from
+pub blank-sound : (n : ℕ) (a : List ℕ) → Origin n a → SoundFrom n a []
+blank-sound n a o = record { origin = o; lines = each-nil (λ m. recordSound n (m .entry) ≡ true) }
 
 module _ (n l : ℕ) (some : 1 ≤ n) where
   abbrev s : Areas
   s = formatted n l
 
-  -- no word is a reference
-  no-words : (o f : ℕ) → 1 ≤ o → f < slotWords → wordOf (formattedPages n) o f ≡ 0
-  no-words o f h k = sym (view-word (formattedPages n) o h f k) ∙ ap (λ (b : Obj). b .word f) (formatted-view n some o) ∙ first-word o f
-
   leads : Leads (formattedPages n) []
   unfolding unbroken
   leads = record {
-    there = λ o f x p r. absurd (r .some (sym (r .target) ∙ no-words o f (reached-some p) (r .word)));
+    there = λ o f x p r. absurd (r .some (sym (r .target) ∙ no-word n some o f (reached-some p) (r .word)));
     unbrokenly = λ o f x p r. refl;
   }
 
@@ -59,7 +52,7 @@ module _ (n l : ℕ) (some : 1 ≤ n) where
   unfolding formatted
   size = rw (formatted-length n some) (omega arith)
 
-  resting : Resting n s blank
+  resting : Resting n s (blank (formattedPages n))
   unfolding formatted committedLines filtered pagesAfter
   resting = record {
     size = size;
@@ -71,14 +64,14 @@ module _ (n l : ℕ) (some : 1 ≤ n) where
     stored = refl;
     copies = refl;
     received = refl;
-    book = blank-inv;
-    sound = each-nil (λ m. recordSound n (m .entry) ≡ true);
+    book = blank-inv (formattedPages n);
+    sound = blank-sound n (formattedPages n) (formatted-origin n some);
     idle = λ t. refl;
     forgot = λ t x. refl;
     all-stable = refl;
-    whole = whole-of n some (countsCommitted blank) [] (each-nil (λ m. recordSound n (m .entry) ≡ true)) leads;
+    whole = whole-of n (formattedPages n) (formatted-origin n some) (countsCommitted (blank (formattedPages n))) [] (each-nil (λ m. recordSound n (m .entry) ≡ true)) leads;
     leads = leads;
   }
 
-pub start-inv : (n l : ℕ) → 1 ≤ n → Inv3 n (formatted n l) blank
-start-inv n l some = open-store (rest-open n some (formatted n l) blank (resting n l some))
+pub start-inv : (n l : ℕ) → 1 ≤ n → Inv3 n (formatted n l) (blank (formattedPages n))
+start-inv n l some = open-store (rest-open n some (formatted n l) (blank (formattedPages n)) (resting n l some))

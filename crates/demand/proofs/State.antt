@@ -27,7 +27,7 @@ use Rattle.recovery_proof.proofs.Invariant as Recovery
 use Rattle.recovery_proof.proofs.Decided.{SameCells}
 use Rattle.book_laws.specs.Seen.{counted, committedOf, seen, seenCommitted, seenFull}
 use Rattle.book_laws.specs.Striking.{entries}
-use Rattle.book_laws.specs.Keeping.{SoundLines, Runs, BookInv, Writers}
+use Rattle.book_laws.specs.Keeping.{SoundBook, Runs, BookInv, Writers}
 use Rattle.pages.specs.Geometry.{pageWords, objectCount}
 use Rattle.records.specs.Records.{txnCount}
 
@@ -72,8 +72,8 @@ pub record LogInv (n : ℕ) (s : Areas) (b : Book) (base : ℕ → Obj) : Type 0
   pub open-ones : (t : ℕ) → t < txnCount → bit (openIn (s .log) (receivedCount s)) t ≡ locksOf (s .work) n .act t
   -- what each part of the log that may be stable leaves, by the book
   pub part : (j : ℕ) → j ≤ receivedCount s - stableCount s → (x : ℕ)
-      → Log.book base x Log.nobody (shapes (drop j (received s))) ≡ seen (counted (drop j (b .lines))) (drop j (b .lines)) x .object
-  pub leads : (j : ℕ) → j ≤ receivedCount s - stableCount s → Leads (pagesAfter n (committedOf (drop j (b .lines)))) (committedOf (drop j (b .lines)))
+      → Log.book base x Log.nobody (shapes (drop j (received s))) ≡ seen (b .origin) (counted (drop j (b .lines))) (drop j (b .lines)) x .object
+  pub leads : (j : ℕ) → j ≤ receivedCount s - stableCount s → Leads (pagesAfter (b .origin) (committedOf (drop j (b .lines)))) (committedOf (drop j (b .lines)))
   -- stored pages and copies show the base where no stable, no received record writes
   pub stored : SameCells (stable s) (view (s .stored)) base
   pub copies : SameCells (received s) (view (s .copies)) base
@@ -85,9 +85,9 @@ pub record OpenInv (n : ℕ) (s : Areas) (b : Book) : Type 0 where
   pub word : reopening s ≡ 2
   pub collector : Collector.Inv (machine n s b)
   pub book : BookInv b
-  pub sound : SoundLines n (b .lines)
+  pub sound : SoundBook n b
   -- 'the received pages equal the full pages'
-  pub full : s .received ≡ fullPages n b
+  pub full : s .received ≡ fullPages b
   -- what the book says is known, the tables know; who runs is active
   pub known : (t x : ℕ) → b .known t x ≡ true → tablesOf (s .work) n .kn t x ≡ true
   pub active : (t : ℕ) → locksOf (s .work) n .act t ≡ true → Runs b t
@@ -99,13 +99,13 @@ pub record OpenInv (n : ℕ) (s : Areas) (b : Book) : Type 0 where
 -- a store that awaits its reopening, or the steps of one
 pub record Waiting (n : ℕ) (s : Areas) (b : Book) : Type 0 where
   pub book : BookInv b
-  pub sound : SoundLines n (b .lines)
+  pub sound : SoundBook n b
   pub idle : (t : ℕ) → b .running t ≡ 0
   pub forgot : (t x : ℕ) → b .known t x ≡ false
   pub all-stable : b .stable ≡ length (b .lines)
   -- the committed state is whole
   pub whole : Whole (objectCount n) (suc (length (b .lines))) (λ x. seenCommitted b x .object) (λ x. seenCommitted b x .tag)
-  pub leads : Leads (committedPages n b) (committedLines b)
+  pub leads : Leads (committedPages b) (committedLines b)
   -- what is stored and stable gives the committed state
   pub order : logSound n (s .log) (stableCount s) ≡ true
   pub gives : (x : ℕ) → Log.undo x Log.everyone (shapes (stable s)) (Log.replay (view (s .stored)) x (shapes (stable s))) ≡ seenCommitted b x .object
@@ -122,11 +122,11 @@ pub record StoringInv (n : ℕ) (s : Areas) (b : Book) (k : ℕ) : Type 0 where
   pub word : reopening s ≡ 1
   pub page : at (s .work) reopeningPageAt ≡ k
   pub waiting : Waiting n s b
-  pub received : s .received ≡ committedPages n b
-  pub copies : s .copies ≡ committedPages n b
+  pub received : s .received ≡ committedPages b
+  pub copies : s .copies ≡ committedPages b
   pub counts : receivedCount s ≡ stableCount s
   -- the pages stored so far
-  pub stored : (i : ℕ) → i < pageWords * k → at (s .stored) i ≡ at (committedPages n b) i
+  pub stored : (i : ℕ) → i < pageWords * k → at (s .stored) i ≡ at (committedPages b) i
   -- nobody is at work: the tables are clear
   pub clear : (i : ℕ) → 2 ≤ i → at (s .work) i ≡ 0
 

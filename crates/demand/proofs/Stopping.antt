@@ -1,6 +1,6 @@
 -- A store whose transactions are stopped, by a cut or by a reopening: what it holds of the book then. n is the number of pages.
 -- Assumes nothing.
-use Prim.Native.Nat.{ℕ, suc, _*_, _-_, _≤_}
+use Prim.Native.Nat.{ℕ, suc, _-_, _≤_}
 use native.Mathlib.Omega.{arith}
 use mathlib.Core.Path.{_≡_, refl, sym, ap, _∙_}
 use mathlib.Core.Bool.{Bool, true, _&&_}
@@ -11,6 +11,7 @@ use borrow.Author.Tests.{eqb-true}
 use Rattle.words.specs.Tests.{by-bool, clash, and-split, and-t}
 use Rattle.words.specs.Bits.{bit}
 use Rattle.pages.specs.Geometry.{pageOf, slotOf, root, objectCount}
+use Rattle.page_laws.specs.SoundFacts.{sound-facts}
 use Rattle.records.specs.declared.Record.{Record}
 use Rattle.records.specs.Order.{logSound}
 use Rattle.areas.specs.Areas.{Areas, receivedCount, stableCount}
@@ -29,7 +30,7 @@ use Rattle.recovery_proof.proofs.Decided.{decided}
 use Rattle.machine_view.proofs.Effects.{view-occ}
 use Rattle.recovery_proof.proofs.Steps.{log-recs}
 use Rattle.book_laws.specs.Seen.{counted, committedOf, seen}
-use Rattle.book_laws.specs.Keeping.{here, later, SoundLines, BookInv}
+use Rattle.book_laws.specs.Keeping.{here, later, SoundLines, Origin, SoundBook, BookInv}
 use Rattle.book_laws.proofs.Folds.{after-view}
 use Rattle.book_laws.proofs.Invariant.{stop-inv}
 use Rattle.book_laws.proofs.Pages.{stop-objects}
@@ -39,7 +40,7 @@ use Rattle.demand.proofs.State.{stable, OpenInv, Waiting, Inv3, open-st
 use Rattle.demand.proofs.Pointing.{whole-in}
 
 -- no sound record frees the root
-root-kept : {n : ℕ} (r : Record) → SoundRecord n r → (b : Obj) → b .occ ≡ true → applied r root b .occ ≡ true
+pub root-kept : {n : ℕ} (r : Record) → SoundRecord n r → (b : Obj) → b .occ ≡ true → applied r root b .occ ≡ true
 unfolding applied fresh put
 root-kept {n} r h b e = by-bool (names 2 r root) (λ q. rw q refl) (λ q. rw q (by-bool (names 3 r root) (λ d. rw d e) (λ d. rw d (by-bool (names 6 r root)
     (λ k. let z = and-split (eqb (r .kind) 6) (eqb (r .object) root) k in let u = h .uncreate (eqb-true (r .kind) 6 (z .0)) .0 in let e = eqb-true (r .object) root (z .1) in absurd (omega arith))
@@ -50,34 +51,38 @@ root-kept {n} r h b e = by-bool (names 2 r root) (λ q. rw q refl) (λ q. rw q (
         let q = and-split (eqb (r .kind) 7) (eqb (r .object) (pageOf root)) (p .0) in
         clash (and-t (eqb (r .object) (pageOf root)) (bit (r .new) (slotOf root)) (q .1) ∙ p .1) (sweep-spares n r h (eqb-true (r .kind) 7 (q .0)))
 
-pub root-there : (n : ℕ) (c : Line → Bool) (ls : List Line) → SoundLines n ls → seen c ls root .object .occ ≡ true
-unfolding seen fresh
-root-there n c [] h = refl
-root-there n c (l ∷ ls) h = let ih = root-there n c ls (λ m i. h m (later i)) in by-bool (c l)
-    (λ e. rw e (root-kept (l .entry) (sound-record n (l .entry) (h l here)) (seen c ls root .object) ih))
+pub root-there : (n : ℕ) (a : List ℕ) → Origin n a → (c : Line → Bool) (ls : List Line) → SoundLines n ls → seen a c ls root .object .occ ≡ true
+unfolding seen
+root-there n a o c [] h = view-occ a root (omega arith) ∙ sound-facts a n (o .sound) .rooted
+root-there n a o c (l ∷ ls) h = let ih = root-there n a o c ls (λ m i. h m (later i)) in by-bool (c l)
+    (λ e. rw e (root-kept (l .entry) (sound-record n (l .entry) (h l here)) (seen a c ls root .object) ih))
     (λ e. rw e ih)
 
-module _ (n : ℕ) (some : 1 ≤ n) where
+-- a stop keeps the book sound
+stopped-sound : (n : ℕ) (b : Book) (g : Stage) → SoundBook n b → SoundBook n (stopped g b)
+stopped-sound n b g h = record { origin = h .origin; lines = stop-sound n b (h .lines) }
+
+module _ (n : ℕ) where
   -- pointers that lead make a state whole: the root is there
-  pub whole-of : (c : Line → Bool) (ls : List Line) → SoundLines n ls → Leads (pagesAfter n (filtered c ls)) (filtered c ls)
-      → Whole (objectCount n) (suc (length ls)) (λ x. seen c ls x .object) (λ x. seen c ls x .tag)
-  whole-of c ls ok h = whole-in n some c ls ok h
-      (sym (view-occ (pagesAfter n (filtered c ls)) root (omega arith)) ∙ ap (λ (o : Obj). o .occ) (after-view n some c ls (λ l j e. ok l j) root) ∙ root-there n c ls ok)
+  pub whole-of : (a : List ℕ) → Origin n a → (c : Line → Bool) (ls : List Line) → SoundLines n ls → Leads (pagesAfter a (filtered c ls)) (filtered c ls)
+      → Whole (objectCount n) (suc (length ls)) (λ x. seen a c ls x .object) (λ x. seen a c ls x .tag)
+  whole-of a first c ls ok h = whole-in n a first c ls ok h
+      (sym (view-occ (pagesAfter a (filtered c ls)) root (omega arith)) ∙ ap (λ (o : Obj). o .occ) (after-view n a (first .size) c ls (λ l j e. ok l j) root) ∙ root-there n a first c ls ok)
 
   -- a store by what a stop needs
-  stop-waits : (s : Areas) (b : Book) (g : Stage) → BookInv b → SoundLines n (b .lines)
-      → Leads (pagesAfter n (committedOf (stableLines b))) (committedOf (stableLines b))
+  stop-waits : (s : Areas) (b : Book) (g : Stage) → BookInv b → SoundBook n b
+      → Leads (pagesAfter (b .origin) (committedOf (stableLines b))) (committedOf (stableLines b))
       → logSound n (s .log) (stableCount s) ≡ true
-      → ((x : ℕ) → Log.undo x Log.everyone (shapes (stable s)) (Log.replay (view (s .stored)) x (shapes (stable s))) ≡ seen (counted (stableLines b)) (stableLines b) x .object)
+      → ((x : ℕ) → Log.undo x Log.everyone (shapes (stable s)) (Log.replay (view (s .stored)) x (shapes (stable s))) ≡ seen (b .origin) (counted (stableLines b)) (stableLines b) x .object)
       → Waiting n s (stopped g b)
   unfolding committedLines
-  stop-waits s b g i ok h order gives = let k : Leads (committedPages n (stopped g b)) (committedLines (stopped g b)) = rw (stop-committed g b) h in record {
+  stop-waits s b g i ok h order gives = let k : Leads (committedPages (stopped g b)) (committedLines (stopped g b)) = rw (stop-committed g b) h in record {
     book = stop-inv g b i;
-    sound = stop-sound n b ok;
+    sound = stopped-sound n b g ok;
     idle = λ t. refl;
     forgot = λ t x. refl;
     all-stable = refl;
-    whole = whole-of (countsCommitted (stopped g b)) (surviving b) (stop-sound n b ok) k;
+    whole = whole-of (b .origin) (ok .origin) (countsCommitted (stopped g b)) (surviving b) (stop-sound n b (ok .lines)) k;
     leads = k;
     order = order;
     gives = λ x. gives x ∙ sym (stop-objects g b x);

@@ -51,7 +51,7 @@ use Rattle.record_laws.specs.SoundRecords.{sweep-sound}
 use Rattle.recovery_proof.proofs.Steps.{logOf, log-sweep}
 use Rattle.book_laws.specs.After.{sweptBy}
 use Rattle.book_laws.specs.Seen.{Seen, acted, seenCommitted, seenFull}
-use Rattle.book_laws.specs.Keeping.{SoundLines}
+use Rattle.book_laws.specs.Keeping.{SoundBook}
 use Rattle.book_laws.proofs.Acts.{freedAt, sweep-acts}
 use Rattle.book_laws.proofs.Committed.{filtered-same}
 use Rattle.book_laws.proofs.Feeding.{sweep-committed, sweep-full}
@@ -164,6 +164,7 @@ module _ (n : ℕ) (some : 1 ≤ n) (s : Areas) (b : Book) (i : OpenInv n s b) (
     log = refl;
     counts = refl;
     stored = refl;
+    origin = refl;
     lines = refl;
     stable = refl;
     room = omega arith;
@@ -200,13 +201,13 @@ module _ (n : ℕ) (some : 1 ≤ n) (s : Areas) (b : Book) (i : OpenInv n s b) (
   unfolding fullLines filtered runs hasCommit
   full-lines = ap (λ (ls : List Line). line r 0 ∷ ls) (filtered-same (countsFull b′) (countsFull b) (b .lines) (λ l j. refl))
 
-  received-shown : s′ .received ≡ fullPages n b′
+  received-shown : s′ .received ≡ fullPages b′
   unfolding sweptPage appended pagesAfter
-  received-shown = ap (λ (a : List ℕ). effect a r) (i .full) ∙ sym (ap (pagesAfter n) full-lines)
+  received-shown = ap (λ (a : List ℕ). effect a r) (i .full) ∙ sym (ap (pagesAfter (b .origin)) full-lines)
 
   sweep-kept : OpenInv n s′ b′
   unfolding sweptPage appended
-  sweep-kept = let sound : SoundLines n (b′ .lines) = each-cons ok (i .sound) in record {
+  sweep-kept = let sound : SoundBook n b′ = record { origin = i .sound .origin; lines = each-cons ok (i .sound .lines) } in record {
     size = i .size;
     stage = i .stage;
     word = advance-word n some s b i h ph ∙ i .word;
@@ -222,7 +223,7 @@ module _ (n : ℕ) (some : 1 ≤ n) (s : Areas) (b : Book) (i : OpenInv n s b) (
       one = λ t u p e d. i .writers .one t u p (sym (wr-same t p) ∙ e) (sym (wr-same u p) ∙ d);
     };
     base = i .base;
-    log = log-after n some s b (i .base) (i .log) h r (line r 0) s′ b′ appends inv-after machine-after sound open-after cells-after;
+    log = log-after n s b (i .base) (i .log) h r (line r 0) s′ b′ appends inv-after machine-after sound open-after cells-after;
   }
 
   -- the slots freed were taken in the received pages
@@ -235,7 +236,7 @@ module _ (n : ℕ) (some : 1 ≤ n) (s : Areas) (b : Book) (i : OpenInv n s b) (
       let d : dead x ≡ true = sym (freed x) ∙ rw (p, q, eq-eqb page page refl) e in
       let u : (t : ℕ) → locksOf (s .work) n .wr t (pageOf x) ≡ false = λ t. rw p (unwritten t) in
       let c : view (s .copies) x .occ ≡ true = Bits.and-r _ _ (Bits.and-l _ _ (Bits.and-l _ _ d)) in
-      let f : view (s .received) x ≡ view (s .copies) x = sym (full-shown n some s b i x) ∙ i .collector .agreed .freeR x u ∙ sym (i .collector .agreed .freeC x u) in
+      let f : view (s .received) x ≡ view (s .copies) x = sym (full-shown n s b i x) ∙ i .collector .agreed .freeR x u ∙ sym (i .collector .agreed .freeC x u) in
       let o : occupied (s .received) x ≡ true = sym (view-occ (s .received) x (omega arith)) ∙ ap (λ (v : Obj). v .occ) f ∙ c in
       rw (p, q) at o
 

@@ -56,7 +56,7 @@ module _ (n : ℕ) (s : Areas) (b : Book) (i : OpenInv n s b) (c w : List ℕ) (
         runs = λ t r. acts t ∙ i .runs t r;
         writers = record { writes = λ t x o. grows t _ (i .writers .writes t x o); one = m .exclusive .sole };
         base = i .base;
-        log = log-quiet n s b (i .base) (i .log) beside b (record { log = refl; counts = refl; stored = refl; lines = refl; stable-lines = refl; running = refl }) h acts (k .cells);
+        log = log-quiet n s b (i .base) (i .log) beside b (record { log = refl; counts = refl; stored = refl; origin = refl; lines = refl; stable-lines = refl; running = refl }) h acts (k .cells);
       }
 
   -- who is active and who writes stays
@@ -74,7 +74,7 @@ module _ (n : ℕ) (s : Areas) (b : Book) (i : OpenInv n s b) (stored counts : L
   noted = areas stored (s .copies) (s .received) (s .log) counts (s .work)
 
   abbrev pub noting : Book
-  noting = record { lines = b .lines; stable = stable; begun = b .begun; running = b .running; known = known; stage = b .stage }
+  noting = record { origin = b .origin; lines = b .lines; stable = stable; begun = b .begun; running = b .running; known = known; stage = b .stage }
 
   pub open-noted : length stored ≡ length (s .stored) → BookInv noting → ((t x : ℕ) → known t x ≡ true → tablesOf (s .work) n .kn t x ≡ true)
       → (base : ℕ → Obj) → LogInv n noted noting base → OpenInv n noted noting

@@ -71,7 +71,7 @@ module _ (n : ℕ) (some : 1 ≤ n) (s : Areas) (b : Book) (i : OpenInv n s b) (
         (reference (s .received) n (h .ranged .received-sound) o f (g .object .low) (g .object .top)) new-range;
     room = g .room;
     own = Facts.own-is s n (machine n s b) (machine-shows n s b) t o (g .txn) (g .object) (g .lock);
-    back = set-back r (seenFull b o .object) refl (ap (λ (x : Obj). x .word f) (full-shown n some s b i o) ∙ view-word (s .received) o (g .object .low) f (g .field));
+    back = set-back r (seenFull b o .object) refl (ap (λ (x : Obj). x .word f) (full-shown n s b i o) ∙ view-word (s .received) o (g .object .low) f (g .field));
     beside = set-beside (s .received) (s .work) n t o f v (h .ranged .received-sound) (g .object .low) (g .object .top) (g .field);
   }
 
@@ -89,7 +89,7 @@ module _ (n : ℕ) (some : 1 ≤ n) (s : Areas) (b : Book) (i : OpenInv n s b) (
       open-change n some s b i h t r w c (b .known)
       (collector-after n some s b i h t r w c (b .known) (C.written (machine n s b) t o f v m)
       (set-shows (s .work) n (h .sized .tables .1) (machine n s b) (machine-shows n s b) t o (g .txn) (g .object .low) (g .object .top)
-      (s .received) (h .ranged .received-sound) (full-shown n some s b i o) f v m (g .field))
+      (s .received) (h .ranged .received-sound) (full-shown n s b i o) f v m (g .field))
       machine-kept _ _ refl refl (λ x. written-at m t o f (wordOf (s .received) o f) v x (seenFull b)))
       (adds-inv b (i .book) t r run refl refl (λ z. omega arith) (λ z. omega arith) refl)
       known-after

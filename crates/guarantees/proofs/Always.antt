@@ -9,14 +9,13 @@ use lib.Seq.{getD-set-same, getD-set-other}
 use lib.Dec.{eqb, ltb}
 use borrow.Author.Tests.{ltb-true, eqb-false, ne-eqb}
 use Rattle.words.specs.Tests.{by-bool}
-use Rattle.pages.specs.Geometry.{objectAt, pageOf, slotOf, root, slotWords, pageWords, slotCount, maxPages}
-use Rattle.pages.specs.Objects.{slotWord, wordOf, formattedPages}
+use Rattle.pages.specs.Geometry.{slotWords, pageWords, maxPages}
+use Rattle.pages.specs.Objects.{wordOf, formattedPages}
 use Rattle.pages.specs.Soundness.{areaSound}
-use Rattle.page_laws.specs.SoundFacts.{facts-sound, copied-sound}
+use Rattle.page_laws.specs.SoundFacts.{copied-sound}
 use Rattle.page_laws.specs.ViewLaws.{length-copied}
 use Rattle.record_laws.specs.RecordLaws.{log-sound-records}
 use Rattle.record_laws.specs.EffectLaws.{length-recovered}
-use Rattle.areas.specs.declared.Check.{Check}
 use Rattle.areas.specs.declared.Check.the-variants.{Accept}
 use Rattle.areas.specs.Answers.{accepted, Test, verdict}
 use Rattle.areas.specs.Areas.{Areas, Out, receivedCount, stableCount}
@@ -44,16 +43,10 @@ use Rattle.book.specs.Lines.{pagesAfter, filtered}
 use Rattle.book.specs.Books.{Book, blank, awaiting, storing, committedLines, committedPages, stopped}
 use Rattle.book.specs.Feeding.{fed}
 use Rattle.book.specs.Demand.{Event, call, power, Point, accepts, after, start}
-use Rattle.collector.specs.Objects as O
 use Rattle.collector.specs.State as M
 use Rattle.machine_calls.specs.Tables.{phaseOf}
 use Rattle.records.specs.Records.{setOf, recordWords, maxRecords}
-use Rattle.collector.specs.Objects.{Obj}
-use Rattle.machine_view.proofs.Places.{page-of-at, slot-of-at}
-use Rattle.recovery_proof.proofs.Maps.{small-formatted}
-use Rattle.machine_view.proofs.Effects.{view-occ, view-word}
 use Rattle.book_laws.specs.Seen.{committedOf}
-use Rattle.book_laws.proofs.Folds.{formatted-length, formatted-view}
 use Rattle.book_laws.proofs.Sweeps.{sweep-kept}
 use Rattle.demand.proofs.State.{OpenInv, StoringInv, Inv3, open-store, cut-store, reopening-store}
 use Rattle.demand.proofs.Finished.{accepted-open}
@@ -70,12 +63,11 @@ use Rattle.demand.proofs.Passing.{open-pass, open-step}
 use Rattle.demand.proofs.Holds.{sweeping-phase}
 use Rattle.demand.proofs.HoldsWaiting.{step-entered}
 use Rattle.demand.proofs.Sweep.{open-sweep, lines-fed}
-use Rattle.book_laws.proofs.Folds.{zeros, zero-at}
+use Rattle.demand.proofs.Formatted.{zeros, zero-at, formatted-length, formatted-sound}
 use Rattle.demand.proofs.Reopen.{reopen-kept}
 use Rattle.demand.proofs.Restep.{restep-kept}
 use Rattle.demand.proofs.Start.{start-inv}
 use Rattle.demand.proofs.Theorem.{keep}
-use Rattle.demand.proofs.Pointing.{first-word}
 use Rattle.guarantees.proofs.Tables.{Within, set-within, word, reopening-page, read-locked-within, write-locked-within, learned-within, started-within, scanning-within, turning-within, advanced-within, clear-within}
 use Rattle.guarantees.proofs.Sound.{Firm, firm-stop}
 use Rattle.guarantees.proofs.Fine.{Fine, resized, in-range, open-fine, held-none, quiet-fine}
@@ -95,7 +87,7 @@ storing-fine n some s b (open-store i) e z st k f = absurd (let w = i .word in o
 storing-fine n some s b (cut-store i) e z st k f = absurd (let w = i .word in omega arith)
 storing-fine n some s b (reopening-store j l i) e z st k f =
     let c = i .counts in
-    let sound : areaSound (committedPages n b) n ≡ true = f 0 (omega arith) in
+    let sound : areaSound (committedPages b) n ≡ true = f 0 (omega arith) in
     record {
       sized = z;
       stored = st;
@@ -121,19 +113,19 @@ reopened-fine n some s b f k j =
 
 -- its steps
 module _ (n : ℕ) (some : 1 ≤ n) (s : Areas) (b : Book) (k : ℕ) (i : StoringInv n s b k) (f : Fine n s b) (a : accepted (callRestep s .answer) ≡ true) where
-  page-fine : (b′ : Book) (p : ℕ) → b′ .lines ≡ b .lines → b′ .stable ≡ b .stable → p < n → Inv3 n (pageStored s p) b′ → Fine n (pageStored s p) b′
+  page-fine : (b′ : Book) (p : ℕ) → b′ .origin ≡ b .origin → b′ .lines ≡ b .lines → b′ .stable ≡ b .stable → p < n → Inv3 n (pageStored s p) b′ → Fine n (pageStored s p) b′
   unfolding pageStored committedLines committedOf
-  page-fine b′ p e d l j = let z = f .sized in
+  page-fine b′ p o e d l j = let z = f .sized in
       let sound : areaSound (s .copies) n ≡ true = rw (i .copies) (f .firm 0 (omega arith)) in
       storing-fine n some (pageStored s p) b′ j (getD-set-other (s .work) 1 0 (p + 1) 0 (λ y. omega arith) ∙ i .word)
       (resized n s (pageStored s p) z (length-copied n (s .copies) (s .stored) p (z .copies-len) (z .stored-len) l ∙ sym (z .stored-len)) refl refl refl refl (length-set (s .work) 1 (p + 1) ∙ z .work-len))
       (copied-sound n (s .copies) (s .stored) p (z .copies-len) (z .stored-len) l sound (f .stored))
-      (f .stable-le) (rw (e, d) (f .firm))
+      (f .stable-le) (rw (o, e, d) (f .firm))
 
-  over-fine : (b′ : Book) → b′ .lines ≡ b .lines → b′ .stable ≡ b .stable → Inv3 n (reopeningOver s) b′ → Fine n (reopeningOver s) b′
+  over-fine : (b′ : Book) → b′ .origin ≡ b .origin → b′ .lines ≡ b .lines → b′ .stable ≡ b .stable → Inv3 n (reopeningOver s) b′ → Fine n (reopeningOver s) b′
   unfolding reopeningOver committedLines committedOf
-  over-fine b′ e d j = let z = f .sized in
-      let sound : areaSound (committedPages n b) n ≡ true = f .firm 0 (omega arith) in
+  over-fine b′ o e d j = let z = f .sized in
+      let sound : areaSound (committedPages b) n ≡ true = f .firm 0 (omega arith) in
       let w : Within (s .work) n = clear-within (s .work) n some (z .work-len) (i .clear) (let y = i .word in omega arith) (let y = entered .reopening-page in y) in
       let v : Within (reopeningOver s .work) n = set-within _ n 1 0 (set-within (s .work) n 0 2 w (word refl (omega arith))) (reopening-page refl (omega arith)) in
       let count : receivedCount (reopeningOver s) ≡ 0 = getD-set-other (set (s .counts) 0 0) 1 0 0 0 (λ y. omega arith) ∙ getD-set-same (s .counts) 0 0 0 (let y = z .counts-len in omega arith) in
@@ -141,7 +133,7 @@ module _ (n : ℕ) (some : 1 ≤ n) (s : Areas) (b : Book) (k : ℕ) (i : Storin
       let two : reopening (reopeningOver s) ≡ 2 = getD-set-other (set (s .work) 0 2) 1 0 0 0 (λ y. omega arith) ∙ getD-set-same (s .work) 0 2 0 (let y = z .work-len in omega arith) in
       open-fine n some (reopeningOver s) b′ (as-open n (reopeningOver s) b′ j two)
       (resized n s (reopeningOver s) z refl refl refl refl (length-set (set (s .counts) 0 0) 1 0 ∙ length-set (s .counts) 0 0) (v .size))
-      (f .stored) v (rw (i .received) sound) (rw (i .copies) sound) (rw (e, d) (f .firm)) (omega arith)
+      (f .stored) v (rw (i .received) sound) (rw (i .copies) sound) (rw (o, e, d) (f .firm)) (omega arith)
     where
       entered : Working (s .work) n
       entered = step-entered n some s b k i a .0 .ranged (λ y. let w = i .word in omega arith) .working
@@ -155,8 +147,8 @@ restep-fine n some s b f (reopening-store k l i) a j =
     let p = at (s .work) reopeningPageAt in
     let g = step-entered n some s b k i a .1 in
     by-bool (ltb p n)
-    (λ e. let d : callRestep s .after ≡ pageStored s p = g ∙ rw e refl in rw d (page-fine n some s b k i f a _ p refl refl (ltb-true p n e) (rw d at j)))
-    (λ e. let d : callRestep s .after ≡ reopeningOver s = g ∙ rw e refl in rw d (over-fine n some s b k i f a _ refl refl (rw d at j)))
+    (λ e. let d : callRestep s .after ≡ pageStored s p = g ∙ rw e refl in rw d (page-fine n some s b k i f a _ p refl refl refl (ltb-true p n e) (rw d at j)))
+    (λ e. let d : callRestep s .after ≡ reopeningOver s = g ∙ rw e refl in rw d (over-fine n some s b k i f a _ refl refl refl (rw d at j)))
 
 -- an accepted call of an open store, by what it went through
 through : (own : Bool) (s : Areas) (tests : ℕ → List Test) (o : Out) (k : ℕ → Out) (n : ℕ) (b′ : Book) → Outcome true own s tests o k → accepted (o .answer) ≡ true → pages s ≡ n
@@ -185,12 +177,12 @@ step-fine : (n : ℕ) → 1 ≤ n → (s : Areas) (b : Book) → OpenInv n s b �
     → OpenInv n (o .after) (fed n b step (s .received) (o .after .received)) → Fine n (o .after) (fed n b step (s .received) (o .after .received))
 unfolding fed
 step-fine n some s b i f h ph o (scans m l d) j = rw d (quiet-fine n some s b _ _ (rw d at j) f h (scanning-within (s .work) n some (within n some s b i f h) (s .copies) (lowestGrey (s .work) n))
-    (sweep-kept (s .received) (s .received) (b .lines) n (λ q k. refl)) refl)
+    refl (sweep-kept (s .received) (s .received) (b .lines) n (λ q k. refl)) refl)
 step-fine n some s b i f h ph o (turns m l d) j = rw d (quiet-fine n some s b _ _ (rw d at j) f h (turning-within (s .work) n some (within n some s b i f h))
-    (sweep-kept (s .received) (s .received) (b .lines) n (λ q k. refl)) refl)
+    refl (sweep-kept (s .received) (s .received) (b .lines) n (λ q k. refl)) refl)
 step-fine n some s b i f h ph o (sweeps m c d) j = rw d (by-bool (eqb (sweepMapOf s n) 0)
     (λ e. rw e (quiet-fine n some s b _ _ (rw (d, e) at j) f h (advanced-within (s .work) n some (within n some s b i f h) (at (s .work) passPageAt))
-    (sweep-kept (s .received) (s .received) (b .lines) n (λ q k. refl)) refl))
+    refl (sweep-kept (s .received) (s .received) (b .lines) n (λ q k. refl)) refl))
     (λ e. sweep-fine n some s b i f h (sweeping-phase (at (s .work) phaseAt) ph m) c (eqb-false _ _ e) (rw d at j)))
 
 -- every accepted call
@@ -211,14 +203,14 @@ module _ (n : ℕ) (some : 1 ≤ n) (s : Areas) (b : Book) (f : Fine n s b) (v :
       through true s _ _ _ n _ (abort-outcome s t) a (i .size) (open-abort n some s b i t a) (λ h k j. aborted-fine n some s b i f h t (abort-facts s t k) j)
   accepted-fine (lockRead t p) a = let i = here (lockRead t p) refl a in
       through true s _ _ _ n _ (lock-read-outcome s t p) a (i .size) (open-lock-read n some s b i t p a)
-      (λ h k j. let g = lock-read-facts s n t p k in quiet-fine n some s b b _ j f h (read-locked-within (s .work) n some (table i h) t p (g .txn) (g .page)) refl refl)
+      (λ h k j. let g = lock-read-facts s n t p k in quiet-fine n some s b b _ j f h (read-locked-within (s .work) n some (table i h) t p (g .txn) (g .page)) refl refl refl)
   accepted-fine (lockWrite t p) a = let i = here (lockWrite t p) refl a in
       through true s _ _ _ n _ (lock-write-outcome s t p) a (i .size) (open-lock-write n some s b i t p a)
-      (λ h k j. let g = lock-write-facts s n t p k in quiet-fine n some s b b _ j f h (write-locked-within (s .work) n some (table i h) t p (g .txn) (g .page)) refl refl)
+      (λ h k j. let g = lock-write-facts s n t p k in quiet-fine n some s b b _ j f h (write-locked-within (s .work) n some (table i h) t p (g .txn) (g .page)) refl refl refl)
   accepted-fine (read t x buffer) a = let i = here (read t x buffer) refl a in
       through (eqb (length buffer) slotWords) s _ _ _ n _ (read-outcome s t x buffer) a (i .size) (open-read n some s b i t x buffer a)
       (λ h k j. let g = read-facts s n t x k in quiet-fine n some s b _ _ j f h
-      (learned-within (s .work) n some (table i h) (s .received) t x (h .ranged .received-sound) (g .txn) (g .object .low) (g .object .top) 8 (omega arith)) refl refl)
+      (learned-within (s .work) n some (table i h) (s .received) t x (h .ranged .received-sound) (g .txn) (g .object .low) (g .object .top) 8 (omega arith)) refl refl refl)
   accepted-fine (create t x) a = let i = here (create t x) refl a in
       through true s _ _ _ n _ (create-outcome s t x) a (i .size) (open-create n some s b i t x a) (λ h k j. created-fine n some s b i f h t x (create-facts s n t x k) j)
   accepted-fine (setWord t x g w) a = let i = here (setWord t x g w) refl a in
@@ -228,14 +220,14 @@ module _ (n : ℕ) (some : 1 ≤ n) (s : Areas) (b : Book) (f : Fine n s b) (v :
       through (eqb (length image) pageWords) s _ _ _ n _ (flush-outcome s t p image) a (i .size) (open-flush n some s b i t p image a)
       (λ h k j. let g = flush-facts s n t p image k in flushed-fine n some s b i f h t p (g .txn) (g .page) j)
   accepted-fine force a = let i = here force refl a in
-      through true s _ _ _ n _ (force-outcome s) a (i .size) (open-force n some s b i a) (λ h k j. forced-fine n some s b i f h _ refl refl j)
+      through true s _ _ _ n _ (force-outcome s) a (i .size) (open-force n some s b i a) (λ h k j. forced-fine n some s b i f h _ refl refl refl j)
   accepted-fine (store p) a = let i = here (store p) refl a in
       through true s _ _ _ n _ (store-outcome s p) a (i .size) (open-store-page n some s b i p a) (λ h k j. stored-fine n some s b i f h p (store-facts s n p k .page) j)
   accepted-fine empty a = let i = here empty refl a in
       through true s _ _ _ n _ (empty-outcome s) a (i .size) (open-empty n some s b i a) (λ h k j. emptied-fine n some s b i f h j)
   accepted-fine (look q) a = rw (look-keeps s q) f
   accepted-fine pass a = let i = here pass refl a in
-      through true s _ _ _ n _ (pass-outcome s) a (i .size) (open-pass n some s b i a) (λ h k j. quiet-fine n some s b b _ j f h (started-within (s .work) n some (table i h)) refl refl)
+      through true s _ _ _ n _ (pass-outcome s) a (i .size) (open-pass n some s b i a) (λ h k j. quiet-fine n some s b b _ j f h (started-within (s .work) n some (table i h)) refl refl refl)
   accepted-fine step a = let i = here step refl a in
       let k = step-outcome s .ran a in
       let p = opened true s (k .n) (k .ready) in
@@ -274,23 +266,7 @@ cut-fine n s b f =
 
 -- a freshly formatted store
 module _ (n l : ℕ) (some : 1 ≤ n) (most : n ≤ maxPages) (low : 1 ≤ l) (few : l ≤ maxRecords) where
-  no-word : (p k g : ℕ) → k < slotCount → g < slotWords → slotWord (formattedPages n) p k g ≡ 0
-  no-word p k g h m =
-      let x = objectAt p k in
-      let q : pageOf x ≡ p = page-of-at p k h in
-      let r : slotOf x ≡ k = slot-of-at p k h in
-      rw (q, r) at (sym (view-word (formattedPages n) x (omega arith) g m) ∙ ap (λ (o : Obj). o .word g) (formatted-view n some x) ∙ first-word x g)
-
-  formatted-sound : areaSound (formattedPages n) n ≡ true
-  unfolding O.fresh
-  formatted-sound = facts-sound (formattedPages n) n (record {
-    map = λ p h. let z = small-formatted n some p h in omega arith;
-    ref = λ p k g hp hk hg r. let z = no-word p k g hk hg in omega arith;
-    free = λ p k g hp hk hg r. no-word p k g hk hg;
-    rooted = sym (view-occ (formattedPages n) root (omega arith)) ∙ ap (λ (o : Obj). o .occ) (formatted-view n some root);
-  })
-
-  pub start-fine : Fine n (formatted n l) blank
+  pub start-fine : Fine n (formatted n l) (blank (formattedPages n))
   unfolding formatted committedOf filtered pagesAfter
   start-fine =
       let s = formatted n l in
@@ -300,7 +276,8 @@ module _ (n l : ℕ) (some : 1 ≤ n) (most : n ≤ maxPages) (low : 1 ≤ l) (f
       let g : length (s .log) ≡ recordWords * l = length-replicate {A = ℕ} (recordWords * l) 0 in
       let e : records s ≡ l = rw g (omega arith) in
       let none = held-none (s .log) 0 refl in
-      open-fine n some s blank (as-open n s blank (start-inv n l some) two)
+      let b = blank (formattedPages n) in
+      open-fine n some s b (as-open n s b (start-inv n l some) two)
       (record {
         count = rw p (omega arith);
         low = some;
@@ -315,10 +292,10 @@ module _ (n l : ℕ) (some : 1 ≤ n) (most : n ≤ maxPages) (low : 1 ≤ l) (f
         work-len = w;
         tables = (most, omega arith);
       })
-      formatted-sound
+      (formatted-sound n some)
       (clear-within (s .work) n some w (λ i h. getD-set-other (zeros (workWords n l)) 0 i 2 0 (λ z. omega arith) ∙ zero-at (workWords n l) i) (omega arith)
       (let z = getD-set-other (zeros (workWords n l)) 0 1 2 0 (λ y. omega arith) ∙ zero-at (workWords n l) 1 in omega arith))
-      formatted-sound formatted-sound (λ j h. let z : j ≡ 0 = omega arith in rw z formatted-sound) (omega arith)
+      (formatted-sound n some) (formatted-sound n some) (λ j h. let z : j ≡ 0 = omega arith in rw z (formatted-sound n some)) (omega arith)
 
 -- every event
 pub record Sure (n : ℕ) (q : Point) : Type 0 where

@@ -97,10 +97,10 @@ unfolding reserved changesLeft
 reserved-held n s b i = sum-alike _ _ 16 (λ t l. rw (i .log .open-ones t l, lt-ltb t txnCount l, true-and (has (s .work) activeAt t)) refl)
 
 -- a call that changes working words alone
-pub quiet-fine : (n : ℕ) → 1 ≤ n → (s : Areas) (b b′ : Book) (w : List ℕ) → OpenInv n (withWork s w) b′ → Fine n s b → Open s n → Within w n → b′ .lines ≡ b .lines → b′ .stable ≡ b .stable
+pub quiet-fine : (n : ℕ) → 1 ≤ n → (s : Areas) (b b′ : Book) (w : List ℕ) → OpenInv n (withWork s w) b′ → Fine n s b → Open s n → Within w n → b′ .origin ≡ b .origin → b′ .lines ≡ b .lines → b′ .stable ≡ b .stable
     → Fine n (withWork s w) b′
-quiet-fine n some s b b′ w j f h v e d = open-fine n some (withWork s w) b′ j (resized n s (withWork s w) (h .sized) refl refl refl refl refl (v .size)) (f .stored) v
-    (h .ranged .received-sound) (h .ranged .copies-sound) (rw (e, d) (f .firm)) (f .room (h .finished))
+quiet-fine n some s b b′ w j f h v o e d = open-fine n some (withWork s w) b′ j (resized n s (withWork s w) (h .sized) refl refl refl refl refl (v .size)) (f .stored) v
+    (h .ranged .received-sound) (h .ranged .copies-sound) (rw (o, e, d) (f .firm)) (f .room (h .finished))
 
 -- a call that appends a record
 pub added-fine : (n : ℕ) → 1 ≤ n → (s : Areas) (b b′ : Book) (r : Record) (w : List ℕ) → OpenInv n (withWork (appended s r) w) b′ → Fine n s b → Open s n → Within w n

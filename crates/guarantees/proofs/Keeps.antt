@@ -57,7 +57,7 @@ use Rattle.book_laws.proofs.Committed.{abort-part, abort-before}
 use Rattle.book_laws.proofs.Ending.{commit-committed, abort-full}
 use Rattle.book_laws.proofs.Ends.{unended}
 use Rattle.book_laws.proofs.Feeding.{begin-committed, adds-committed}
-use Rattle.book_laws.proofs.Pages.{committed-view, full-view, full-length, state-length}
+use Rattle.book_laws.proofs.Pages.{committed-view, full-view, full-length, committed-length}
 use Rattle.demand.proofs.State.{machine, OpenInv}
 use Rattle.demand.proofs.Change.{machine-shows, full-shown}
 use Rattle.demand.proofs.Shared.{small-after}
@@ -94,7 +94,7 @@ module _ (n : ℕ) (some : 1 ≤ n) (s : Areas) (b : Book) (i : OpenInv n s b) (
   opens : (t : ℕ) → t < txnCount → bit (at (s .work) activeAt) t ≡ true → bit (openIn (s .log) (receivedCount s)) t ≡ true
   opens t l a = i .log .open-ones t l ∙ act-is s n (machine n s b) (machine-shows n s b) t l ∙ a
 
-  committed-sound : areaSound (committedPages n b) n ≡ true
+  committed-sound : areaSound (committedPages b) n ≡ true
   unfolding committedLines committedOf
   committed-sound = f .firm 0 (omega arith)
 
@@ -106,7 +106,7 @@ module _ (n : ℕ) (some : 1 ≤ n) (s : Areas) (b : Book) (i : OpenInv n s b) (
       let hold = held-begin (s .log) (receivedCount s) (beginOf t) (long 2 (omega arith) (omega arith)) t (k .txn) (eq-eqb t t refl) refl in
       let idle : b .running t ≡ 0 = stopped-one t k in
       added-fine n some s b (begins b t) (beginOf t) _ j f h (begun-within (s .work) n some within t (k .txn)) (h .ranged .received-sound)
-      (firm-idle n b (begins b t) (line (beginOf t) (b .begun + 1)) refl refl (i .book .stable) (begin-committed b (i .book) t (k .txn) idle) (f .firm)) (omega arith)
+      (firm-idle n b (begins b t) (line (beginOf t) (b .begun + 1)) refl refl refl (i .book .stable) (begin-committed b (i .book) t (k .txn) idle) (f .firm)) (omega arith)
     where
       stopped-one : (t : ℕ) → BeginFacts s t → b .running t ≡ 0
       stopped-one t k = by-bool (eqb (b .running t) 0) (λ e. eqb-true _ _ e)
@@ -120,7 +120,7 @@ module _ (n : ℕ) (some : 1 ≤ n) (s : Areas) (b : Book) (i : OpenInv n s b) (
       let hold = held-change (s .log) (receivedCount s) (createOf t o) (long 2 (omega arith) (omega arith)) t (k .txn) refl refl refl refl in
       added-fine n some s b (learns (adds b t (createOf t o)) t (eqb o)) (createOf t o) _ j f h (created-within (s .work) n some within t o (k .txn) (k .object .low) (k .object .top))
       (occupy-sound n (s .received) (h .sized .received-len) (h .ranged .received-sound) o (k .object .low) (k .object .top))
-      (firm-idle n b (learns (adds b t (createOf t o)) t (eqb o)) (line (createOf t o) (b .running t)) refl refl (i .book .stable)
+      (firm-idle n b (learns (adds b t (createOf t o)) t (eqb o)) (line (createOf t o) (b .running t)) refl refl refl (i .book .stable)
       (adds-committed b (i .book) t (runs t (k .txn) (k .active)) (createOf t o) refl refl) (f .firm)) (omega arith)
 
   pub set-fine : (t o g v : ℕ) → SetFacts s n t o g v → (r : Record) → r ≡ setOf t o g (wordOf (s .received) o g) v → OpenInv n (wordSet s n t o g v) (adds b t r) → Fine n (wordSet s n t o g v) (adds b t r)
@@ -129,12 +129,12 @@ module _ (n : ℕ) (some : 1 ≤ n) (s : Areas) (b : Book) (i : OpenInv n s b) (
       let room = beyond 2 (k .room) in
       let q = setOf t o g (wordOf (s .received) o g) v in
       let hold = held-change (s .log) (receivedCount s) q (long 2 (omega arith) (omega arith)) t (k .txn) refl refl refl refl in
-      let there : occupied (s .received) o ≡ true = sym (view-occ (s .received) o (k .object .low)) ∙ ap (λ (x : Obj). x .occ) (sym (full-shown n some s b i o))
+      let there : occupied (s .received) o ≡ true = sym (view-occ (s .received) o (k .object .low)) ∙ ap (λ (x : Obj). x .occ) (sym (full-shown n s b i o))
       ∙ known-there (machine n s b) (i .collector) t o (kn-is s n (machine n s b) (machine-shows n s b) t o (k .txn) ∙ k .known) in
       added-fine n some s b (adds b t r) q _ j f h (set-tables-within (s .received) (s .work) n t o g v some within (h .ranged .received-sound) (k .txn) (k .object .low) (k .object .top) (k .field))
       (written-sound n (s .received) (h .sized .received-len) (h .ranged .received-sound) o (k .object .low) (k .object .top) g v (k .field) there
       (λ y. elim (k .may y) [ inl z ↦ omega arith | inr z ↦ known-facts (s .work) n t v z .object .top ]))
-      (firm-idle n b (adds b t r) (line r (b .running t)) refl refl (i .book .stable)
+      (firm-idle n b (adds b t r) (line r (b .running t)) refl refl refl (i .book .stable)
       (adds-committed b (i .book) t (runs t (k .txn) (k .active)) r (rw e refl) (rw e refl)) (f .firm)) (omega arith)
 
   -- an open transaction's share of the reserve
@@ -142,14 +142,14 @@ module _ (n : ℕ) (some : 1 ≤ n) (s : Areas) (b : Book) (i : OpenInv n s b) (
   shares t o = rw o refl
 
   -- pages that show the full objects on t's pages and the committed ones elsewhere, or the other way round
-  mixed-sound : (a : List ℕ) → Small n a → ((x : ℕ) → (view a x ≡ view (s .received) x) ⊎ (view a x ≡ view (committedPages n b) x)) → areaSound a n ≡ true
-  mixed-sound a small e = either-sound n some (s .received) (committedPages n b) a (h .ranged .received-sound) committed-sound small e
+  mixed-sound : (a : List ℕ) → Small n a → ((x : ℕ) → (view a x ≡ view (s .received) x) ⊎ (view a x ≡ view (committedPages b) x)) → areaSound a n ≡ true
+  mixed-sound a small e = either-sound n some (s .received) (committedPages b) a (h .ranged .received-sound) committed-sound small e
 
   shown-full : (x : ℕ) → seenFull b x .object ≡ view (s .received) x
-  shown-full x = full-shown n some s b i x
+  shown-full x = full-shown n s b i x
 
-  shown-committed : (x : ℕ) → seenCommitted b x .object ≡ view (committedPages n b) x
-  shown-committed x = sym (committed-view n some b (i .sound) x)
+  shown-committed : (x : ℕ) → seenCommitted b x .object ≡ view (committedPages b) x
+  shown-committed x = sym (committed-view n b (i .sound) x)
 
   -- commit
   pub committed-fine : (t : ℕ) → CommitFacts s n t → OpenInv n (committed s n t) (committedBy b t) → Fine n (committed s n t) (committedBy b t)
@@ -164,12 +164,12 @@ module _ (n : ℕ) (some : 1 ≤ n) (s : Areas) (b : Book) (i : OpenInv n s b) (
       let hold = held-but t (share g c t) 0 g c (recorded g c (commitOf t)) (c + 1) (k .txn) (others-more g c (commitOf t) l t refl) (omega arith) in
       let room = f .room (h .finished) in
       added-fine n some s b (committedBy b t) (commitOf t) _ j f h (ended-within (s .work) n some within t) (h .ranged .received-sound)
-      (firm-more n b (committedBy b t) (line (commitOf t) (b .running t)) refl refl (i .book .stable)
-      (mixed-sound (committedPages n (committedBy b t)) (small-after n some (countsCommitted (committedBy b t)) (committedBy b t .lines) (j .sound)) (λ x. either x run)) (f .firm)) (omega arith)
+      (firm-more n b (committedBy b t) (line (commitOf t) (b .running t)) refl refl refl (i .book .stable)
+      (mixed-sound (committedPages (committedBy b t)) (small-after n (b .origin) (j .sound .origin) (countsCommitted (committedBy b t)) (committedBy b t .lines) (j .sound .lines)) (λ x. either x run)) (f .firm)) (omega arith)
     where
-      either : (x : ℕ) → Runs b t → (view (committedPages n (committedBy b t)) x ≡ view (s .received) x) ⊎ (view (committedPages n (committedBy b t)) x ≡ view (committedPages n b) x)
+      either : (x : ℕ) → Runs b t → (view (committedPages (committedBy b t)) x ≡ view (s .received) x) ⊎ (view (committedPages (committedBy b t)) x ≡ view (committedPages b) x)
       either x run =
-          let e = committed-view n some (committedBy b t) (j .sound) x ∙ ap (λ (v : Seen). v .object) (commit-committed b (i .book) (locksOf (s .work) n .wr) (i .writers) t run x) in
+          let e = committed-view n (committedBy b t) (j .sound) x ∙ ap (λ (v : Seen). v .object) (commit-committed b (i .book) (locksOf (s .work) n .wr) (i .writers) t run x) in
           by-bool (locksOf (s .work) n .wr t (pageOf x))
           (λ d. inl (rw d at e ∙ shown-full x))
           (λ d. inr (rw d at e ∙ shown-committed x))
@@ -186,11 +186,11 @@ module _ (n : ℕ) (some : 1 ≤ n) (s : Areas) (b : Book) (i : OpenInv n s b) (
   -- the received pages after an abort
   abort-received : (t : ℕ) → Runs b t → (s′ : Areas) → OpenInv n s′ (abortedBy b t) → areaSound (s′ .received) n ≡ true
   unfolding fullLines
-  abort-received t run s′ j = rw (j .full) (mixed-sound (fullPages n (abortedBy b t)) (small-after n some (countsFull (abortedBy b t)) (abortedBy b t .lines) (j .sound)) either)
+  abort-received t run s′ j = rw (j .full) (mixed-sound (fullPages (abortedBy b t)) (small-after n (b .origin) (j .sound .origin) (countsFull (abortedBy b t)) (abortedBy b t .lines) (j .sound .lines)) either)
     where
-      either : (x : ℕ) → (view (fullPages n (abortedBy b t)) x ≡ view (s .received) x) ⊎ (view (fullPages n (abortedBy b t)) x ≡ view (committedPages n b) x)
+      either : (x : ℕ) → (view (fullPages (abortedBy b t)) x ≡ view (s .received) x) ⊎ (view (fullPages (abortedBy b t)) x ≡ view (committedPages b) x)
       either x =
-          let e = full-view n some (abortedBy b t) (j .sound) x ∙ ap (λ (v : Seen). v .object) (abort-full b (i .book) (locksOf (s .work) n .wr) (i .writers) t run x) in
+          let e = full-view n (abortedBy b t) (j .sound) x ∙ ap (λ (v : Seen). v .object) (abort-full b (i .book) (locksOf (s .work) n .wr) (i .writers) t run x) in
           by-bool (locksOf (s .work) n .wr t (pageOf x))
           (λ d. inr (rw d at e ∙ shown-committed x))
           (λ d. inl (rw d at e ∙ shown-full x))
@@ -215,7 +215,7 @@ module _ (n : ℕ) (some : 1 ≤ n) (s : Areas) (b : Book) (i : OpenInv n s b) (
       let hold = held-but t (share g c t) 0 g c (appended a (abortedOf t) .log) (receivedCount (appended a (abortedOf t))) (k .txn)
       (record { shares = λ v d. m′ .others .shares v d ∙ m .others .shares v d }) (omega arith) in
       let room = f .room (h .finished) in
-      let received-len : length (appended a (abortedOf t) .received) ≡ pageWords * n = ap length (j .full) ∙ full-length n some (abortedBy b t) (j .sound) in
+      let received-len : length (appended a (abortedOf t) .received) ≡ pageWords * n = ap length (j .full) ∙ full-length n (abortedBy b t) (j .sound) in
       let sound : areaSound (appended a (abortedOf t) .received) n ≡ true = abort-received t run (aborted s n t) j in
       let log-len : length (appended a (abortedOf t) .log) ≡ length (s .log) = m′ .log ∙ m .log in
       let e-len : length cs ≡ length (changesLeft [] g c t) = ap length ec in
@@ -227,7 +227,7 @@ module _ (n : ℕ) (some : 1 ≤ n) (s : Areas) (b : Book) (i : OpenInv n s b) (
       (rw (appended-stored a (abortedOf t) ∙ rolled-rest g cs s .0) (f .stored))
       (ended-within (s .work) n some within t) sound
       (restored-sound t (appended a (abortedOf t) .received) received-len sound n (omega arith))
-      (firm-many n b (abortedBy b t) (suc (left (b .running t) (b .lines))) (abort-length b (i .book) t run) refl (i .book .stable)
+      (firm-many n b (abortedBy b t) (suc (left (b .running t) (b .lines))) refl (abort-length b (i .book) t run) refl (i .book .stable)
       (abort-part (b .running t) t (b .lines) (none run)) (abort-before (b .running t) t (b .lines) (none run)) (f .firm))
       (rw log-len (omega arith))
     where
@@ -260,10 +260,10 @@ module _ (n : ℕ) (some : 1 ≤ n) (s : Areas) (b : Book) (i : OpenInv n s b) (
       open-fine n some (withCounts s k) b′ j (resized n s (withCounts s k) (h .sized) refl refl refl refl e (h .sized .work-len)) (f .stored) within
       (h .ranged .received-sound) (h .ranged .copies-sound) firm room
 
-  pub forced-fine : (b′ : Book) → b′ .lines ≡ b .lines → b′ .stable ≡ b .stable + 1 → OpenInv n (withCounts s (set (s .counts) 1 (stableCount s + 1))) b′
+  pub forced-fine : (b′ : Book) → b′ .origin ≡ b .origin → b′ .lines ≡ b .lines → b′ .stable ≡ b .stable + 1 → OpenInv n (withCounts s (set (s .counts) 1 (stableCount s + 1))) b′
       → Fine n (withCounts s (set (s .counts) 1 (stableCount s + 1))) b′
-  forced-fine b′ e d j = counted-fine b′ (set (s .counts) 1 (stableCount s + 1)) (length-set (s .counts) 1 (stableCount s + 1)) j
-      (λ k l. rw e (f .firm k (let z : length (b′ .lines) ≡ length (b .lines) = ap length e in omega arith)))
+  forced-fine b′ o e d j = counted-fine b′ (set (s .counts) 1 (stableCount s + 1)) (length-set (s .counts) 1 (stableCount s + 1)) j
+      (λ k l. rw (o, e) (f .firm k (let z : length (b′ .lines) ≡ length (b .lines) = ap length e in omega arith)))
       (rw (getD-set-other (s .counts) 1 0 (stableCount s + 1) 0 (λ z. omega arith)) (f .room (h .finished)))
 
   pub emptied-fine : OpenInv n (emptied s) b → Fine n (emptied s) b
@@ -273,7 +273,7 @@ module _ (n : ℕ) (some : 1 ≤ n) (s : Areas) (b : Book) (i : OpenInv n s b) (
 
   -- a sweep
   pub swept-fine : (p m : ℕ) (w : List ℕ) → p < n → Room s 1 → Within w n → OpenInv n (withWork (sweptPage s p m) w) (sweptBy b p m) → Fine n (withWork (sweptPage s p m) w) (sweptBy b p m)
-  unfolding sweptPage appended effect
+  unfolding sweptPage appended effect committedLines committedOf
   swept-fine p m w l room v j =
       let s′ = withWork (sweptPage s p m) w in
       let room′ = beyond 1 room in
@@ -290,6 +290,6 @@ module _ (n : ℕ) (some : 1 ≤ n) (s : Areas) (b : Book) (i : OpenInv n s b) (
       (f .stored) v
       (released-sound n (s .received) (h .sized .received-len) (h .ranged .received-sound) p m l root-kept)
       (released-sound n (s .copies) (h .sized .copies-len) (h .ranged .copies-sound) p m l root-kept)
-      (firm-more n b (sweptBy b p m) (line (sweepOf p m) 0) refl refl (i .book .stable)
-      (rw (swept-lines n (b .lines) p m) (released-sound n (pagesAfter n (committedOf (b .lines))) (state-length n some (b .lines) (i .sound)) (f .firm 0 (omega arith)) p m l root-kept)) (f .firm))
+      (firm-more n b (sweptBy b p m) (line (sweepOf p m) 0) refl refl refl (i .book .stable)
+      (rw (swept-lines (b .origin) (b .lines) p m) (released-sound n (pagesAfter (b .origin) (committedOf (b .lines))) (committed-length n b (i .sound)) (f .firm 0 (omega arith)) p m l root-kept)) (f .firm))
       (rw (count, g) (omega arith))

@@ -6,5 +6,7 @@ pub mod Sound
 pub mod Fine
 pub mod Keeps
 pub mod Always
+pub mod Disks
 pub mod Refusals
 pub mod Stages
+pub mod Held

@@ -2,42 +2,36 @@
 use Prim.Native.Nat.{ℕ, _+_, _*_, _≤_}
 use native.Mathlib.Omega.{arith}
 use mathlib.Core.Path.{_≡_, refl, sym, ap, _∙_}
-use mathlib.Core.Bool.{Bool, true, false, not, _&&_, _||_}
+use mathlib.Core.Bool.{Bool, true, false, _&&_}
 use mathlib.Core.List.{List, [], _∷_}
-use lib.ListN.{length, getD}
-use lib.Dec.{eqb, leb, ltb}
+use lib.ListN.{length}
+use lib.Dec.{eqb, leb}
 use borrow.Author.Tests.{le-leb, eq-eqb, eqb-true, eqb-false, ltb-true}
 use Rattle.words.specs.Tests.{if, all, by-bool, clash, and-split, all-intro, all-at}
 use Rattle.words.specs.Bits.{bit}
-use Rattle.words.specs.Spans.{same}
-use Rattle.pages.specs.Geometry.{pageWords, slotWords, objectCount, root, pageOf, isObject, maxPages}
+use Rattle.pages.specs.Geometry.{pageWords, slotWords, objectCount, root, maxPages}
 use Rattle.pages.specs.Objects.{occupied}
 use Rattle.pages.specs.Soundness.{areaSound, mapSound, refsSound, pageSound, freeZero}
 use Rattle.records.specs.Changes.{changesLeft}
-use Rattle.records.specs.Naming.{lastNaming}
 use Rattle.records.specs.Order.{openIn}
 use Rattle.records.specs.Recovery.{recoverable}
-use Rattle.areas.specs.declared.Refusal.{Refusal}
 use Rattle.areas.specs.declared.Refusal.the-variants.{Malformed, Unsound}
 use Rattle.areas.specs.declared.Check.{Check}
 use Rattle.areas.specs.declared.Check.the-variants.{Accept, Refuse}
 use Rattle.areas.specs.Answers.{Test, accepted, need, verdict, spares, answerOf, checkNumber, need-holds, fails-later, fails-last, spared}
 use Rattle.areas.specs.Areas.{Areas, Out, receivedCount, stableCount, done, checked}
-use Rattle.areas.specs.Layout.{activeAt, readersAt, writersAt}
-use Rattle.areas.specs.Tables.{at, isTxn, isActive, canRead, canWrite, knows, passRuns, isMarking}
+use Rattle.areas.specs.Tables.{isTxn, isActive, isMarking}
 use Rattle.areas.specs.Ranges.{fit, lengthsFit}
 use Rattle.areas.specs.Entry.{pages, records, reopening, wellFormed, isReady, called, called-checked, called-closed}
-use Rattle.calls.specs.Locks.{noOther, lockReadTests, callLockRead, lockWriteTests, callLockWrite}
-use Rattle.calls.specs.Objects.{readTests, callRead, createTests, callCreate, setTests, callSet, flushTests, callFlush, mayWrite, agrees}
+use Rattle.calls.specs.Locks.{lockReadTests, callLockRead, lockWriteTests, callLockWrite}
+use Rattle.calls.specs.Objects.{readTests, callRead, createTests, callCreate, setTests, callSet, flushTests, callFlush}
 use Rattle.calls.specs.Pass.{passTests, callPass, lowestGrey, marked, sweepTests, swept, stepTests, callStep}
-use Rattle.calls.specs.Room.{roomBeyond, roomWithin}
 use Rattle.calls.specs.Reopening.{reopenTests, reopened, callReopen, restepTests, callRestep}
 use Rattle.calls.specs.Stability.{forceTests, callForce, storeTests, callStore, emptyTests, callEmpty}
-use Rattle.calls.specs.Transactions.{beginTests, callBegin, allFlushed, commitTests, callCommit, changesOf, abortTests, callAbort}
-use Rattle.calls.specs.Looks.{Look, callLook}
+use Rattle.calls.specs.Transactions.{beginTests, callBegin, commitTests, callCommit, changesOf, abortTests, callAbort}
+use Rattle.calls.specs.Looks.{callLook}
 use Rattle.calls.specs.Calls.{Call, perform}
 use Rattle.calls.specs.Calls.Call.{begin, commit, abort, lockRead, lockWrite, read, create, setWord, flush, force, store, empty, pass, step, reopen, restep, look}
-use Rattle.acceptance.specs.Entered.{opened}
 use Rattle.acceptance.specs.Lengths.{Sized}
 use Rattle.acceptance.specs.Pass.{scanning, turning, sweepMapOf, sweeping, stepped}
 use Rattle.book.specs.Books.{Book, storing, committedLines, committedPages, stopped}
@@ -49,12 +43,14 @@ use Rattle.demand.proofs.Stopping.{stops}
 use Rattle.machine_calls.proofs.Facts.{act-is}
 use Rattle.recovery_proof.proofs.Changes.{changes-left}
 use Rattle.demand.proofs.Reopen.{recovered-committed}
+use Rattle.guarantees.specs.Disks.{fromDisk, Disk}
 use Rattle.guarantees.specs.Points.{AtEvery, last, then, Always}
 use Rattle.guarantees.specs.Refusals.{Reopenable, NeverUnsound, Endable, RoomToEnd, ownFits, WellFormed, NeverMalformed}
 use Rattle.guarantees.proofs.Fine.{Fine}
 use Rattle.guarantees.proofs.Sound.{firm-stop}
 use Rattle.guarantees.proofs.Reserve.{share, share-held}
 use Rattle.guarantees.proofs.Always.{as-open, Sure, keep-sure, start-sure}
+use Rattle.guarantees.proofs.Disks.{disk-some, disk-inv, disk-fine}
 use Rattle.records.specs.Records.{recordWords, txnCount, maxRecords}
 
 -- what the invariants give at a point holds at every point
@@ -62,8 +58,14 @@ pub at-every : (n : ℕ) → 1 ≤ n → (Q : Point → Type 0) → ((q : Point)
 at-every n some Q f [] q u = last (f q u)
 at-every n some Q f (e ∷ es) q u = then (f q u) (at-every n some Q f es (after n q e) (keep-sure n some q e u))
 
+pub disk-sure : (s : Areas) (d : Disk s) → Sure (pages s) (fromDisk s)
+disk-sure s d = record { inv = disk-inv s d; fine = disk-fine s d }
+
 pub always : (Q : Point → Type 0) → ((n : ℕ) → 1 ≤ n → (q : Point) → Sure n q → Q q) → Always Q
-always Q f n l some most low few es = at-every n some Q (f n some) es (start n l) (start-sure n l some most low few)
+always Q f = record {
+  formatted = λ n l some most low few es. at-every n some Q (f n some) es (start n l) (start-sure n l some most low few);
+  disk = λ s d es. at-every (pages s) (disk-some s d) Q (f (pages s) (disk-some s d)) es (fromDisk s) (disk-sure s d);
+}
 
 -- lengths fit
 pub fits : (n : ℕ) (s : Areas) → Sized s n → fit s ≡ true
@@ -93,13 +95,13 @@ module _ (n : ℕ) (some : 1 ≤ n) (s : Areas) (b : Book) (i : Inv3 n s b) (f :
   b′ = stopped (storing 0) b
 
   waits : Waiting n s b′
-  waits = stops n some s b (storing 0) i
+  waits = stops n s b (storing 0) i
 
   recovers : recoverable n (s .stored) (s .log) (stableCount s) ≡ true
   unfolding recoverable committedLines committedOf
-  recovers = rw (f .stored, waits .order, recovered-committed n some s b i (f .sized .stored-len) (f .stored)) (free-all n (committedPages n b′) (firm-stop n (storing 0) b (f .firm) 0 (omega arith)))
+  recovers = rw (f .stored, waits .order, recovered-committed n s b i (f .sized .stored-len) (f .stored)) (free-all n (committedPages b′) (firm-stop n (storing 0) b (f .firm) 0 (omega arith)))
 
-  reopenable : accepted (callReopen s .answer) ≡ true
+  pub reopenable : accepted (callReopen s .answer) ≡ true
   unfolding callReopen reopenTests verdict
   reopenable = rw (fits n s (f .sized), le-leb (stableCount s) (records s) (f .stable-le), f .sized .count, recovers) refl
 

@@ -1,6 +1,6 @@
 -- Sound page areas: one that shows each object as one of two sound areas does, and the committed states of a book's lines. n is the number
 -- of pages. Assumes nothing.
-use Prim.Native.Nat.{ℕ, zero, suc, _+_, _*_, _-_, _≤_, _<_}
+use Prim.Native.Nat.{ℕ, zero, suc, _+_, _-_, _≤_, _<_}
 use native.Mathlib.Omega.{arith}
 use native.Mathlib.Decide.{decLe}
 use mathlib.Core.Path.{_≡_, refl, sym, ap, _∙_}
@@ -63,30 +63,30 @@ module _ (n : ℕ) (some : 1 ≤ n) (a b c : List ℕ) (sa : areaSound a n ≡ t
 
 -- the committed states that a cut may leave are sound
 abbrev pub Firm : ℕ → Book → Type 0
-Firm n b = (j : ℕ) → j ≤ length (b .lines) - b .stable → areaSound (pagesAfter n (committedOf (drop j (b .lines)))) n ≡ true
+Firm n b = (j : ℕ) → j ≤ length (b .lines) - b .stable → areaSound (pagesAfter (b .origin) (committedOf (drop j (b .lines)))) n ≡ true
 
 -- one line more
-pub firm-more : (n : ℕ) (b b′ : Book) (l : Line) → b′ .lines ≡ l ∷ b .lines → b′ .stable ≡ b .stable → b .stable ≤ length (b .lines) → areaSound (pagesAfter n (committedOf (b′ .lines))) n ≡ true
+pub firm-more : (n : ℕ) (b b′ : Book) (l : Line) → b′ .origin ≡ b .origin → b′ .lines ≡ l ∷ b .lines → b′ .stable ≡ b .stable → b .stable ≤ length (b .lines) → areaSound (pagesAfter (b′ .origin) (committedOf (b′ .lines))) n ≡ true
     → Firm n b → Firm n b′
-firm-more n b b′ l e d h s f zero k = s
-firm-more n b b′ l e d h s f (suc j) k = rw e (f j (let z : length (b′ .lines) ≡ suc (length (b .lines)) = ap length e in omega arith))
+firm-more n b b′ l o e d h s f zero k = s
+firm-more n b b′ l o e d h s f (suc j) k = rw (o, e) (f j (let z : length (b′ .lines) ≡ suc (length (b .lines)) = ap length e in omega arith))
 
 -- one that commits nothing
-pub firm-idle : (n : ℕ) (b b′ : Book) (l : Line) → b′ .lines ≡ l ∷ b .lines → b′ .stable ≡ b .stable → b .stable ≤ length (b .lines) → Alike (b′ .lines) (b .lines) → Firm n b → Firm n b′
-firm-idle n b b′ l e d h a f = firm-more n b b′ l e d h (rw (a .lines) (f 0 (omega arith))) f
+pub firm-idle : (n : ℕ) (b b′ : Book) (l : Line) → b′ .origin ≡ b .origin → b′ .lines ≡ l ∷ b .lines → b′ .stable ≡ b .stable → b .stable ≤ length (b .lines) → Alike (b′ .lines) (b .lines) → Firm n b → Firm n b′
+firm-idle n b b′ l o e d h a f = firm-more n b b′ l o e d h (rw (o, a .lines) (f 0 (omega arith))) f
 
 -- lines that an abort adds
-pub firm-many : (n : ℕ) (b b′ : Book) (k : ℕ) → length (b′ .lines) ≡ k + length (b .lines) → b′ .stable ≡ b .stable → b .stable ≤ length (b .lines)
+pub firm-many : (n : ℕ) (b b′ : Book) (k : ℕ) → b′ .origin ≡ b .origin → length (b′ .lines) ≡ k + length (b .lines) → b′ .stable ≡ b .stable → b .stable ≤ length (b .lines)
     → ((j : ℕ) → j ≤ k → Alike (drop j (b′ .lines)) (b .lines)) → ((j : ℕ) → Alike (drop (k + j) (b′ .lines)) (drop j (b .lines))) → Firm n b → Firm n b′
-firm-many n b b′ k e d h part before f j l = elim (decLe j k) [
+firm-many n b b′ k o e d h part before f j l = rw o (elim (decLe j k) [
   | yes m ↦ rw (part j m .lines) (f 0 (omega arith))
   | no m ↦ (let z : k + (j - k) ≡ j = omega arith in rw (← z) (rw (before (j - k) .lines) (f (j - k) (omega arith))))
-]
+])
 
 -- a sweep's line
-pub swept-lines : (n : ℕ) (ls : List Line) (p m : ℕ) → pagesAfter n (committedOf (line (sweepOf p m) 0 ∷ ls)) ≡ released (pagesAfter n (committedOf ls)) p m
+pub swept-lines : (a : List ℕ) (ls : List Line) (p m : ℕ) → pagesAfter a (committedOf (line (sweepOf p m) 0 ∷ ls)) ≡ released (pagesAfter a (committedOf ls)) p m
 unfolding committedOf filtered hasCommit pagesAfter effect
-swept-lines n ls p m = ap (λ (k : List Line). released (pagesAfter n k) p m) (filtered-same (counted (line (sweepOf p m) 0 ∷ ls)) (counted ls) ls (λ l j. refl))
+swept-lines a ls p m = ap (λ (k : List Line). released (pagesAfter a k) p m) (filtered-same (counted (line (sweepOf p m) 0 ∷ ls)) (counted ls) ls (λ l j. refl))
 
 -- a stop leaves the stable lines' state
 pub firm-stop : (n : ℕ) (g : Stage) (b : Book) → Firm n b → Firm n (stopped g b)

@@ -1,6 +1,8 @@
 -- What document 01 says beside demand 3, as statements.
 pub mod Unchanged
 pub mod Stable
+pub mod Disks
 pub mod Points
 pub mod Refusals
 pub mod Stages
+pub mod Held

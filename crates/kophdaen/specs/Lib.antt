@@ -1,2 +1,2 @@
--- What the C functions answer.
-pub mod Codes
+-- What a C function answers where its answer is settled by what holds of it.
+pub mod Wholeness

@@ -8,17 +8,11 @@ ghost use Rattle.calls.specs.Objects.{callRead, callCreate, callSet, callFlush,
 ghost use Rattle.calls.specs.Stability.{callForce, callStore, callEmpty};
 ghost use Rattle.calls.specs.Pass.{callPass, callStep};
 ghost use Rattle.calls.specs.Reopening.{callReopen, callRestep};
-ghost use Rattle.kophdaen.specs.Codes.{coded};
-use areas::Answer;
+ghost use Rattle.codes.specs.Codes.{coded};
+use codes::code;
 
-// The number that a C function answers.
-fn code(a: Answer) -> u64
-    ensures { λ r. ⌜ r ≡ coded a ⌝ }
-{
-    let number = areas::answer_of(a);
-    let value = areas::value_of(a);
-    4294967296 * (number as u64) + (value as u64)
-}
+mod held;
+mod whole;
 
 // Makes the root and no other object.
 #[no_mangle]

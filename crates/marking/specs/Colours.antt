@@ -1,18 +1,20 @@
 -- The loops over the colours: the first ones, the search for a grey one, and the targets that turn grey. n is the number of pages.
 -- Assumes nothing.
-use Prim.Native.Nat.{ℕ, suc, _+_, _<_, _≤_}
+use Prim.Native.Nat.{ℕ, suc, _+_, _*_, _<_, _≤_}
 use mathlib.Core.Path.{_≡_, refl, sym, ap, _∙_}
 use mathlib.Core.Bool.{Bool, true, false, not, _&&_, _||_}
 use mathlib.Core.List.{List}
 use lib.ListN.{set}
+use lib.Bits.{bitOr}
 use lib.Dec.{eqb}
 use native.Mathlib.Numerals.{add-one}
 use native.Mathlib.Omega.{arith}
-use borrow.Author.Tests.{eq-eqb, ne-eqb}
-use Rattle.words.specs.Tests.{if, if-t, if-f, lowest, lowest-next, lowest-found}
+use borrow.Author.Tests.{eq-eqb, ne-eqb, eqb-true}
+use Rattle.words.specs.Tests.{if, if-t, if-f, and-split, lowest, lowest-next, lowest-found}
 use Rattle.words.specs.Spans.{fill, fill-outside}
-use Rattle.pages.specs.Geometry.{slotWords, objectCount, root, isRef}
+use Rattle.pages.specs.Geometry.{slotWords, slotCount, objectCount, root, isRef}
 use Rattle.pages.specs.Objects.{occupied, wordOf}
+use Rattle.page_laws.specs.BitLaws.{or-none}
 use Rattle.page_laws.specs.Runs.{fill-turn}
 use Rattle.areas.specs.Layout.{prunedAt, createdAt, colourAt}
 use Rattle.areas.specs.Tables.{at, flag, isGrey, passFirst, mayMark, greyed, withPass}
@@ -74,6 +76,18 @@ module _ (w : List ℕ) (n : ℕ) where
   pub grey-next : (k i : ℕ) → noneGrey w n k → i ≡ colourAt n (k + 1) → (at w i ≡ 1 → ⊥) → noneGrey w n (k + 1)
   unfolding noneGrey
   grey-next k i h place e = lowest-next (λ j. isGrey w n (j + 1)) k h (rw (← place) (ne-eqb (at w i) 1 e))
+
+  -- the objects of page p, k of them looked at: g collects what x says of the next colour, which stands at a + k
+  pub page-next : (p k a g x : ℕ) → a ≡ colourAt n (slotCount * p + 1) → (g ≡ 0 → noneGrey w n (slotCount * p + k)) → (x ≡ 0 → at w (a + k) ≡ 1 → ⊥)
+      → bitOr g x ≡ 0 → noneGrey w n (slotCount * p + (k + 1))
+  page-next p k a g x place h c e =
+      let b = and-split (eqb g 0) (eqb x 0) (sym (or-none g x) ∙ eq-eqb (bitOr g x) 0 e) in
+      let m : slotCount * p + (k + 1) ≡ (slotCount * p + k) + 1 = omega arith in
+      rw m (grey-next (slotCount * p + k) (a + k) (h (eqb-true g 0 (b .0))) (omega arith) (c (eqb-true x 0 (b .1))))
+
+  -- the count of objects looked at, written another way
+  pub grey-same : {j k : ℕ} → noneGrey w n j → j ≡ k → noneGrey w n k
+  grey-same h e = rw e at h
 
   pub grey-found : (k i : ℕ) → noneGrey w n k → k < objectCount n → i ≡ colourAt n (k + 1) → at w i ≡ 1 → k + 1 ≡ lowestGrey w n
   unfolding noneGrey lowestGrey

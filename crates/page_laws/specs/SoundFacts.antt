@@ -34,20 +34,22 @@ root-fact : (a : List ℕ) (n : ℕ) → areaSound a n ≡ true → occupied a r
 unfolding areaSound
 root-fact a n h = and-r (all (pageSound a n) n) (occupied a root) h
 
+-- a free slot of a page whose free slots are zero
+pub free-fact : (a : List ℕ) (p s f : ℕ) → freeZero a p ≡ true → s < slotCount → f < slotWords → taken a p s ≡ false → slotWord a p s f ≡ 0
+unfolding freeZero slotZero
+free-fact a p s f h hs hf r = eqb-true (slotWord a p s f) 0 (all-at (λ f. eqb (slotWord a p s f) 0) slotWords f (rw r at (all-at (λ s. taken a p s || slotZero a p s) slotCount s h hs)) hf)
+
 pub sound-facts : (a : List ℕ) (n : ℕ) → areaSound a n ≡ true → Sound a n
-unfolding refsSound freeZero slotZero
+unfolding refsSound
 sound-facts a n h = record {
   map = λ p hp. let e = leb-true (mapAt a p) mapTop (page-facts a n p h hp .0) in omega arith;
   ref = λ p s f hp hs hf r. ref-of p s f r (all-at (refSound a n p s) slotWords f (all-at (λ s. all (refSound a n p s) slotWords) slotCount s (page-facts a n p h hp .1) hs) hf);
-  free = λ p s f hp hs hf r. free-of p s f hf r (all-at (λ s. taken a p s || slotZero a p s) slotCount s (page-facts a n p h hp .2) hs);
+  free = λ p s f hp hs hf r. free-fact a p s f (page-facts a n p h hp .2) hs hf r;
   rooted = root-fact a n h;
 }
   where
     ref-of : (p s f : ℕ) → isRefAt a p s f ≡ true → refSound a n p s f ≡ true → slotWord a p s f ≤ objectCount n
     ref-of p s f r e = leb-true (slotWord a p s f) (objectCount n) (rw r at e)
-
-    free-of : (p s f : ℕ) → f < slotWords → taken a p s ≡ false → (taken a p s || slotZero a p s) ≡ true → slotWord a p s f ≡ 0
-    free-of p s f hf r e = eqb-true (slotWord a p s f) 0 (all-at (λ f. eqb (slotWord a p s f) 0) slotWords f (rw r at e) hf)
 
 pub facts-sound : (a : List ℕ) (n : ℕ) → Sound a n → areaSound a n ≡ true
 unfolding areaSound pageSound refsSound freeZero slotZero

@@ -1,4 +1,5 @@
--- Laws about log records: what a sound one says, and a log with one more record.
+-- Laws about log records: what a sound one says, a log with one more record, and the pages that records name.
 pub mod RecordLaws
 pub mod EffectLaws
 pub mod SoundRecords
+pub mod NamingLaws

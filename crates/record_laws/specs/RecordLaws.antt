@@ -21,7 +21,7 @@ use Rattle.records.specs.Records.{made, recordAt, recorded, isBegin, isChange, 
 use Rattle.records.specs.Soundness.{txnSound, namesObject, objectSound, fieldSound, newSound, referenceSound, wordSound, recordSound, recordsSound}
 use Rattle.records.specs.Order.{openNext, openIn, inOrder, logSound}
 use Rattle.records.specs.Changes.{changesIn}
-use Rattle.records.specs.Naming.{namesPage, pageNamed, lastNaming}
+use Rattle.records.specs.Naming.{namesPage, pageNamed}
 use Rattle.records.specs.Effects.{effect}
 use Rattle.records.specs.Recovery.{redone}
 
@@ -318,21 +318,6 @@ changes-le g t (suc i) = let r = recordAt g i in let h = changes-le g t i in by-
 pub changes-next : (g : List ℕ) (t i : ℕ) → changesNext t i (recordAt g i) (changesIn g t i) ≡ changesIn g t (i + 1)
 unfolding changesIn
 changes-next g t i = ap (changesIn g t) (sym (add-one i))
-
--- the pages named
-abbrev pub namingNext : ℕ → Record → List ℕ → List ℕ
-namingNext i r l = if (namesPage r) (set l (pageNamed r) (i + 1)) l
-
-module _ (g : List ℕ) (i : ℕ) (r : Record) (l : List ℕ) (e : l ≡ lastNaming g i) (f : r ≡ recordAt g i) where
-  pub naming-next : namingNext i r l ≡ lastNaming g (i + 1)
-  unfolding lastNaming
-  naming-next = ap (namingNext i r) e ∙ ap (λ (s : Record). namingNext i s (lastNaming g i)) f ∙ ap (lastNaming g) (sym (add-one i))
-
-  pub naming-some : (p : ℕ) → namesPage r ≡ true → p ≡ pageNamed r → set l p (i + 1) ≡ lastNaming g (i + 1)
-  naming-some p h k = ap (λ (q : ℕ). set l q (i + 1)) k ∙ sym (if-t (namesPage r) _ l h) ∙ naming-next
-
-  pub naming-none : namesPage r ≡ false → l ≡ lastNaming g (i + 1)
-  naming-none h = sym (if-f (namesPage r) (set l (pageNamed r) (i + 1)) l h) ∙ naming-next
 
 pub redone-next : (a g : List ℕ) (i : ℕ) → effect (redone a g i) (recordAt g i) ≡ redone a g (i + 1)
 unfolding redone

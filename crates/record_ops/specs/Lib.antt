@@ -1,3 +1,5 @@
--- What a record may ask of a page area, and what transactions reserve as one scan of the log counts it.
+-- What a record may ask of a page area, the pages that the last records name, and what transactions reserve as a walk down the log
+-- finds it.
 pub mod InRange
+pub mod Naming
 pub mod Reserves

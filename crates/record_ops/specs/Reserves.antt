@@ -1,120 +1,148 @@
--- Document 01, 'Room': what every transaction reserves, by one scan of the log. Assumes nothing.
-use Prim.Native.Nat.{ℕ, zero, suc, _+_, _-_, _<_, _≤_}
+-- Document 01, 'Room': what transactions reserve, by a walk down the log that ends where the last begin of each is met. Assumes nothing.
+use Prim.Native.Nat.{ℕ, _+_, _<_, _≤_, _^_}
 use mathlib.Core.Path.{_≡_, refl, sym, ap, _∙_}
-use mathlib.Core.Bool.{Bool, true, false, _&&_, _||_}
-use mathlib.Core.List.{List, [], _∷_}
+use mathlib.Core.Bool.{Bool, true, false, not, _&&_, _||_}
+use mathlib.Core.List.{List}
 use lib.ListN.{length, getD, set, replicate, length-set, getD-replicate}
 use lib.Seq.{getD-set-same, getD-set-other}
 use lib.Dec.{eqb}
 use native.Mathlib.Decide.{ℕ-discrete}
-use native.Mathlib.Numerals.{add-one}
 use native.Mathlib.Omega.{arith}
-use borrow.Author.Tests.{eq-eqb, ne-eqb}
-use Rattle.words.specs.Tests.{if, any, sum, by-bool, if-t, if-f, sum-next}
-use Rattle.words.specs.Bits.{bit}
+use borrow.Author.Tests.{eqb-true, eq-eqb, ne-eqb, not-true}
+use Rattle.words.specs.Tests.{if, any, sum, by-bool, clash, and-true, and-false, and-split, eqb-swap, any-next, sum-next, or-false, or-true}
+use Rattle.words.specs.Bits.{bit, withBit, withoutBit, bit-none, bit-without, with-same}
 use Rattle.records.specs.declared.Record.{Record}
-use Rattle.records.specs.Records.{txnCount, recordAt, isBegin}
+use Rattle.records.specs.Records.{txnCount, recordAt, isBegin, isChange}
 use Rattle.records.specs.Changes.{changesIn, changesLeft, reserveOf}
-use Rattle.record_laws.specs.RecordLaws.{changes-le}
+use Rattle.record_laws.specs.RecordLaws.{begunIn, changesNext, changes-next}
 
--- 'each active transaction reserves 1 record plus 1 for each of its creates and sets. Its records are those after its last begin':
--- what one more record of kind k makes of its transaction's share, 0 where it has not begun, else 1 and its creates and sets since
-abbrev pub shareNext : ℕ → ℕ → ℕ
-shareNext k x = if (eqb k 1) 1 (if (eqb k 2 || eqb k 3) (if (eqb x 0) 0 (x + 1)) x)
+-- the transactions whose last begin is sought, s before and after record r
+abbrev pub soughtNext : ℕ → Record → ℕ
+soughtNext s r = if (eqb (r .kind) 1) (withoutBit s (r .txn)) s
 
--- by transaction, its share of the first c records
-unfoldable pub sharesIn : List ℕ → ℕ → List ℕ
-sharesIn g zero = replicate txnCount 0
-sharesIn g (suc i) = let l = sharesIn g i in let r = recordAt g i in set l (r .txn) (shareNext (r .kind) (getD l (r .txn) 0))
+-- how many changes of r's transaction were met, x before r and after it
+abbrev pub metNext : Record → ℕ → ℕ
+metNext r x = if (eqb (r .kind) 2 || eqb (r .kind) 3) (x + 1) x
+
+-- what a walk from record c down to record i, for the last begins of the transactions in a mask, says of t, if s are still sought and
+-- m changes of t were met
+pub record Walked (g : List ℕ) (mask c i s t m : ℕ) : Type 0 where
+  pub few : m + i ≤ c
+  -- its begin and the rest of its changes are below
+  pub sought : bit s t ≡ true → (begunIn g t i ≡ begunIn g t c) × (m + length (changesIn g t i) ≡ length (changesIn g t c))
+  -- its begin was met, and so were all its changes
+  pub met : bit mask t ≡ true → bit s t ≡ false → (begunIn g t c ≡ true) × (m ≡ length (changesIn g t c))
+
+-- the same of each transaction, by the list of changes met
+pub record WalkedTo (g : List ℕ) (mask c i s : ℕ) (l : List ℕ) : Type 0 where
+  pub size : length l ≡ txnCount
+  pub each : (t : ℕ) → t < txnCount → Walked g mask c i s t (getD l t 0)
 
 -- laws
 
-pub shares-next : (g : List ℕ) (i : ℕ) (l : List ℕ) (x : ℕ) (r : Record) → r ≡ recordAt g i → l ≡ sharesIn g i → x ≡ shareNext (r .kind) (getD l (r .txn) 0)
-    → set l (r .txn) x ≡ sharesIn g (i + 1)
-unfolding sharesIn
-shares-next g i l x r read e f =
-    ap (set l (r .txn)) f
-    ∙ ap (λ (y : Record). set l (y .txn) (shareNext (y .kind) (getD l (y .txn) 0))) read
-    ∙ ap (λ (m : List ℕ). set m (recordAt g i .txn) (shareNext (recordAt g i .kind) (getD m (recordAt g i .txn) 0))) e
-    ∙ ap (sharesIn g) (sym (add-one i))
+pub walk-start : (g : List ℕ) (mask c : ℕ) → WalkedTo g mask c c mask (replicate txnCount 0)
+walk-start g mask c = record {
+  size = refl;
+  each = λ t h. rw (getD-replicate {A = ℕ} txnCount t 0 0 h) (record { few = omega arith; sought = λ b. (refl, omega arith); met = λ b e. clash b e });
+}
 
-pub length-shares : (g : List ℕ) (c : ℕ) → length (sharesIn g c) ≡ txnCount
-unfolding sharesIn
-length-shares g zero = refl
-length-shares g (suc i) = length-set (sharesIn g i) _ _ ∙ length-shares g i
+-- one record down, for t
+module _ (g : List ℕ) (mask c i s s′ t m m′ : ℕ) (r : Record) (read : r ≡ recordAt g i) where
+  no-change : isBegin r t ≡ true → isChange r t ≡ false
+  no-change b = let k = eqb-true (r .kind) 1 (and-split (eqb (r .kind) 1) (eqb (r .txn) t) b .0) in rw k
 
--- a transaction's share, by its begins and its changes
-abbrev pub shareOf : List ℕ → ℕ → ℕ → ℕ
-shareOf g c t = if (any (λ i. isBegin (recordAt g i) t) c) (1 + length (changesIn g t c)) 0
+  begun-next : begunIn g t i || isBegin r t ≡ begunIn g t (i + 1)
+  begun-next = rw read (any-next (λ j. isBegin (recordAt g j) t) i)
 
--- b: it has begun; y: the record is its own; p, q: a begin, a change
-share-step : (b y p q : Bool) (i : ℕ) (l : List ℕ)
-    → if (b || (p && y)) (1 + length (if (p && y) [] (if (q && y) (i ∷ l) l))) 0
-    ≡ if y (if p 1 (if q (if (eqb (if b (1 + length l) 0) 0) 0 (if b (1 + length l) 0 + 1)) (if b (1 + length l) 0))) (if b (1 + length l) 0)
-share-step true true true q i l = refl
-share-step false true true q i l = refl
-share-step true true false true i l = rw (ne-eqb (1 + length l) 0 (λ e. omega arith)) (omega arith)
-share-step false true false true i l = refl
-share-step true true false false i l = refl
-share-step false true false false i l = refl
-share-step true false true true i l = refl
-share-step true false true false i l = refl
-share-step true false false true i l = refl
-share-step true false false false i l = refl
-share-step false false true q i l = refl
-share-step false false false q i l = refl
+  changes-by : changesNext t i r (changesIn g t i) ≡ changesIn g t (i + 1)
+  changes-by = rw read (changes-next g t i)
 
-share-next : (g : List ℕ) (i t : ℕ) → shareOf g (suc i) t ≡ (let r = recordAt g i in if (eqb (r .txn) t) (shareNext (r .kind) (shareOf g i t)) (shareOf g i t))
-unfolding any changesIn
-share-next g i t = let r = recordAt g i in
-    share-step (any (λ j. isBegin (recordAt g j) t) i) (eqb (r .txn) t) (eqb (r .kind) 1) (eqb (r .kind) 2 || eqb (r .kind) 3) i (changesIn g t i)
+  step : bit s′ t ≡ bit s t && not (isBegin r t) → m′ ≡ if (bit s t && isChange r t) (m + 1) m → Walked g mask c (i + 1) s t m → Walked g mask c i s′ t m′
+  step es em w = record {
+    few = let f = w .few in rw em (by-bool (bit s t && isChange r t) (λ e. rw e (omega arith)) (λ e. rw e (omega arith)));
+    sought = λ b. let p = and-split (bit s t) (not (isBegin r t)) (sym es ∙ b) in below (p .0) (not-true (isBegin r t) (p .1));
+    met = λ k b. by-bool (bit s t) (λ e. here e (by-bool (isBegin r t) (λ y. y) (λ y. clash (rw (e, y)) (sym es ∙ b)))) (λ e. let h = w .met k e in (h .0, rw (em, e) (h .1)));
+  }
+    where
+      -- the begin is further down
+      below : bit s t ≡ true → isBegin r t ≡ false → (begunIn g t i ≡ begunIn g t c) × (m′ + length (changesIn g t i) ≡ length (changesIn g t c))
+      below e n = let h = w .sought e in let k = ap length changes-by in (
+        sym (or-false (begunIn g t i)) ∙ ap (λ (b : Bool). begunIn g t i || b) (sym n) ∙ begun-next ∙ h .0,
+        by-bool (isChange r t)
+            (λ f. let l = rw (n, f) at k in rw (em, e, f) (omega arith))
+            (λ f. let l = rw (n, f) at k in rw (em, e, f) (omega arith)),
+      )
 
-pub shares-at : (g : List ℕ) (c t : ℕ) → t < txnCount → getD (sharesIn g c) t 0 ≡ shareOf g c t
-unfolding sharesIn any
-shares-at g zero t h = getD-replicate txnCount t 0 0 h
-shares-at g (suc i) t h =
-    let k = recordAt g i .kind in
-    let p = recordAt g i .txn in
-    let l = sharesIn g i in
-    let v = shareNext k (getD l p 0) in
-    elim (ℕ-discrete t p) [
-      | yes q ↦ (ap (λ (j : ℕ). getD (set l p v) j 0) q
-          ∙ getD-set-same l p v 0 (let e = length-shares g i in omega arith)
-          ∙ ap (shareNext k) (ap (λ (j : ℕ). getD l j 0) (sym q) ∙ shares-at g i t h)
-          ∙ sym (share-next g i t ∙ if-t _ _ _ (eq-eqb p t (sym q))))
-      | no q ↦ (getD-set-other l p t v 0 q ∙ shares-at g i t h ∙ sym (share-next g i t ∙ if-f _ _ _ (ne-eqb p t (λ e. q (sym e)))))
+      -- r is the begin
+      here : bit s t ≡ true → isBegin r t ≡ true → (begunIn g t c ≡ true) × (m′ ≡ length (changesIn g t c))
+      here e y = let h = w .sought e in let k = rw y at (ap length changes-by) in (
+        sym (h .0) ∙ sym begun-next ∙ ap (λ (b : Bool). begunIn g t i || b) y ∙ or-true (begunIn g t i),
+        rw (em, e, no-change y) (omega arith),
+      )
+
+-- the same of all, as the code takes it down: j, the record's number before the step
+pub walk-next : (g : List ℕ) (mask c j i s s′ : ℕ) (l : List ℕ) (x : ℕ) (r : Record) → j ≡ i + 1 → r ≡ recordAt g i → r .txn < txnCount
+    → bit s (r .txn) ≡ true → s′ ≡ soughtNext s r → x ≡ metNext r (getD l (r .txn) 0) → WalkedTo g mask c j s l → WalkedTo g mask c i s′ (set l (r .txn) x)
+walk-next g mask c j i s s′ l x r place read inside one es ex w =
+    record {
+      size = length-set l (r .txn) x ∙ w .size;
+      each = λ t h. step g mask c i s s′ t (getD l t 0) _ r read (sought-bit t) (met-at t) (rw place at (w .each t h));
+    }
+  where
+    sought-bit : (t : ℕ) → bit s′ t ≡ bit s t && not (isBegin r t)
+    sought-bit t = by-bool (eqb (r .kind) 1)
+        (λ e. rw (es, e) (bit-without s (r .txn) t ∙ rw (eqb-swap t (r .txn))))
+        (λ e. rw (es, e) (sym (and-true (bit s t))))
+
+    met-at : (t : ℕ) → getD (set l (r .txn) x) t 0 ≡ if (bit s t && isChange r t) (getD l t 0 + 1) (getD l t 0)
+    met-at t = elim (ℕ-discrete t (r .txn)) [
+      | yes q ↦ rw (q, eq-eqb (r .txn) (r .txn) refl, one, and-true) (getD-set-same l (r .txn) x 0 (let n = w .size in omega arith) ∙ ex)
+      | no q ↦ rw (ne-eqb (r .txn) t (λ e. q (sym e)), and-false, and-false) (getD-set-other l (r .txn) t x 0 q)
     ]
 
-pub shares-le : (g : List ℕ) (c : ℕ) (l : List ℕ) (t : ℕ) → l ≡ sharesIn g c → t < txnCount → getD l t 0 ≤ c + 1
-shares-le g c l t e h = let k = changes-le g t c in rw (e, shares-at g c t h)
-    (by-bool (any (λ i. isBegin (recordAt g i) t) c) (λ f. rw f (omega arith)) (λ f. rw f (omega arith)))
+-- a record of one that is not sought is passed over
+pub walk-past : (g : List ℕ) (mask c j i s : ℕ) (l : List ℕ) (r : Record) → j ≡ i + 1 → r ≡ recordAt g i → bit s (r .txn) ≡ false → WalkedTo g mask c j s l → WalkedTo g mask c i s l
+walk-past g mask c j i s l r place read past w = record {
+  size = w .size;
+  each = λ t h. step g mask c i s s t (getD l t 0) (getD l t 0) r read (sought-same t) (met-same t) (rw place at (w .each t h));
+}
+  where
+    absent : (t : ℕ) → eqb (r .txn) t ≡ true → bit s t ≡ false
+    absent t e = rw (eqb-true (r .txn) t e) at past
 
--- what an active transaction reserves by its share x: 'without one it has none', and reserves the 1 record alone
-abbrev pub reserveBy : ℕ → ℕ
-reserveBy x = if (eqb x 0) 1 x
+    sought-same : (t : ℕ) → bit s t ≡ bit s t && not (isBegin r t)
+    sought-same t = by-bool (eqb (r .txn) t) (λ e. rw (absent t e)) (λ e. rw (e, and-false (eqb (r .kind) 1)) (sym (and-true (bit s t))))
 
-begun-left : (b : Bool) (l : List ℕ) → reserveBy (if b (1 + length l) 0) ≡ 1 + length (if b l [])
-begun-left true l = rw (ne-eqb (1 + length l) 0 (λ e. omega arith))
-begun-left false l = refl
+    met-same : (t : ℕ) → getD l t 0 ≡ if (bit s t && isChange r t) (getD l t 0 + 1) (getD l t 0)
+    met-same t = by-bool (eqb (r .txn) t) (λ e. rw (absent t e)) (λ e. rw (e, and-false (eqb (r .kind) 2 || eqb (r .kind) 3), and-false (bit s t)))
 
-module _ (w g : List ℕ) (c : ℕ) (l : List ℕ) (t : ℕ) (e : l ≡ sharesIn g c) (h : t < txnCount) where
-  pub share-left : reserveBy (getD l t 0) ≡ 1 + length (changesLeft w g c t)
-  unfolding changesLeft
-  share-left =
-      ap (λ (m : List ℕ). reserveBy (getD m t 0)) e
-      ∙ ap reserveBy (shares-at g c t h)
-      ∙ begun-left (any (λ i. isBegin (recordAt g i) t) c) (changesIn g t c)
+-- where none is sought the rest of the log does not matter
+pub walk-done : (g : List ℕ) (mask c i s : ℕ) (l : List ℕ) → s ≡ 0 → WalkedTo g mask c i s l → WalkedTo g mask c 0 s l
+walk-done g mask c i s l e w = record {
+  size = w .size;
+  each = λ t h. let k = w .each t h in let f = k .few in record { few = omega arith; sought = λ b. clash b (rw e (bit-none t)); met = k .met };
+}
 
-  pub left-none : getD l t 0 ≡ 0 → 0 ≡ length (changesLeft w g c t)
-  left-none z = let k = share-left in let r = ap reserveBy z in omega arith
+-- the changes of t that are left, of a walk to the first record
+walked-left : (w g : List ℕ) (mask c s t m : ℕ) → bit mask t ≡ true → Walked g mask c 0 s t m → if (bit s t) 0 m ≡ length (changesLeft w g c t)
+unfolding changesLeft any
+walked-left w g mask c s t m b k = by-bool (bit s t)
+    (λ e. rw (e, sym (k .sought e .0)))
+    (λ e. let h = k .met b e in rw (e, h .0) (h .1))
 
-  pub left-some : (getD l t 0 ≡ 0 → ⊥) → getD l t 0 - 1 ≡ length (changesLeft w g c t)
-  left-some z = let k = sym (if-f _ 1 (getD l t 0) (ne-eqb (getD l t 0) 0 z)) ∙ share-left in omega arith
+-- a mask of t alone has t
+mask-bit : (t : ℕ) → bit (2 ^ t) t ≡ true
+unfolding withBit
+mask-bit t = let e : 0 + 2 ^ t ≡ 2 ^ t = omega arith in rw (bit-none t, e) at (with-same 0 t)
 
-  -- the sum over the transactions, one more
-  pub reserved-next : (active s y : ℕ) → s ≡ sum (reserveOf w g c active) t → y ≡ if (bit active t) (reserveBy (getD l t 0)) 0
-      → s + y ≡ sum (reserveOf w g c active) (t + 1)
-  reserved-next active s y f k =
-      ap (λ (x : ℕ). s + x) (k ∙ ap (λ (x : ℕ). if (bit active t) x 0) share-left)
-      ∙ ap (λ (x : ℕ). x + reserveOf w g c active t) f
-      ∙ sum-next (reserveOf w g c active) t
+-- the same of a walk for t alone
+pub one-left : (w g : List ℕ) (mask c s t m : ℕ) → mask ≡ 2 ^ t → Walked g mask c 0 s t m → if (bit s t) 0 m ≡ length (changesLeft w g c t)
+one-left w g mask c s t m e = walked-left w g mask c s t m (rw e (mask-bit t))
+
+-- the sum over the transactions, one more
+pub reserved-next : (w g : List ℕ) (active c s t m v y : ℕ) → Walked g active c 0 s t m → v ≡ sum (reserveOf w g c active) t
+    → y ≡ if (bit active t) (1 + if (bit s t) 0 m) 0 → v + y ≡ sum (reserveOf w g c active) (t + 1)
+reserved-next w g active c s t m v y k f e =
+    ap (λ (x : ℕ). v + x) (e ∙ by-bool (bit active t) (λ b. rw (b, walked-left w g active c s t m b k)) (λ b. rw b))
+    ∙ ap (λ (x : ℕ). x + reserveOf w g c active t) f
+    ∙ sum-next (reserveOf w g c active) t

@@ -12,4 +12,3 @@ pub use naming::names_page;
 pub use naming::page_named;
 pub use room::changes_left;
 pub use room::reserved;
-pub use room::reserves;

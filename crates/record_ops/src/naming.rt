@@ -5,7 +5,8 @@ ghost use lib.ListN.{length};
 ghost use Rattle.pages.specs.Geometry.{maxPages};
 ghost use Rattle.records.specs.Records.{recordWords, maxRecords, isSweep};
 ghost use Rattle.records.specs.Soundness.{recordsSound};
-ghost use Rattle.records.specs.Naming.{namesPage, pageNamed, lastNaming};
+ghost use Rattle.records.specs.Naming.{namesPage, pageNamed};
+ghost use Rattle.record_ops.specs.Naming.{NamedPast};
 use pages::MAX_PAGES;
 use records::Record;
 
@@ -30,13 +31,13 @@ pub fn page_named(r: Record) -> usize
     (r.object as usize - 1) / pages::SLOTS
 }
 
-// By page, the number, from 1, of the last of the first c records that names it.
-pub fn last_naming(log: &[u32], c: usize) -> [u32; MAX_PAGES]
-    requires { ⌜ (recordWords * c ≤ length (now log)) × (c ≤ maxRecords) × (recordsSound maxPages (now log) c ≡ true) ⌝ }
-    ensures { λ l. ⌜ l ≡ lastNaming (now (log .entry)) c ⌝ }
+// By page, the number, from 1, of the last of the first c records that names it, where it is past the first a; else 0.
+pub fn last_naming(log: &[u32], a: usize, c: usize) -> [u32; MAX_PAGES]
+    requires { ⌜ (a ≤ c) × (recordWords * c ≤ length (now log)) × (c ≤ maxRecords) × (recordsSound maxPages (now log) c ≡ true) ⌝ }
+    ensures { λ l. ⌜ NamedPast (now (log .entry)) a c l ⌝ }
 {
     let mut last = [0u32; MAX_PAGES];
-    for i in 0..c {
+    for i in a..c {
         let r = log_reader::record_at(log, i);
         if names_page(r) {
             let p = page_named(r);

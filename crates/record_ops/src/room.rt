@@ -2,55 +2,91 @@ ghost use mathlib.Core.Path.{_≡_};
 ghost use mathlib.Core.Bool.{true};
 ghost use mathlib.Core.List.{List};
 ghost use Prim.Native.Nat.{ℕ, _+_, _*_, _<_, _≤_};
-ghost use lib.ListN.{length, getD};
+ghost use lib.ListN.{length};
 ghost use Rattle.words.specs.Tests.{if};
 ghost use Rattle.words.specs.Bits.{bit};
 ghost use Rattle.pages.specs.Geometry.{maxPages};
 ghost use Rattle.records.specs.Records.{recordWords, maxRecords, txnCount};
 ghost use Rattle.records.specs.Soundness.{recordsSound};
 ghost use Rattle.records.specs.Changes.{changesLeft, reserved};
-ghost use Rattle.record_ops.specs.Reserves.{shareNext, sharesIn, reserveBy};
+ghost use Rattle.record_ops.specs.Reserves.{soughtNext, metNext, WalkedTo};
+use bit_ops::bits;
+use records::Record;
 
 const TXNS: usize = records::TXNS as usize;
 
-// What one more record of kind k makes of its transaction's share.
-fn share_next(k: u32, x: u32) -> u32
-    requires { ⌜ x ≤ maxRecords + 1 ⌝ }
-    ensures { λ y. ⌜ y ≡ shareNext k x ⌝ }
-{
-    if k == records::BEGIN {
-        return 1;
-    }
-    if (k == records::CREATE) | (k == records::SET) {
-        return if x == 0 { 0 } else { x + 1 };
-    }
-    x
+// What a walk down the log leaves: the transactions whose last begin was not met, and by transaction how many of its changes were.
+struct Walk {
+    sought: u32,
+    changes: [u32; TXNS],
 }
 
-// By transaction, 1 and the number of its changes left; 0 where it has no begin. One scan serves all sixteen.
-pub fn reserves(log: &[u32], c: usize) -> [u32; TXNS]
-    requires { ⌜ (recordWords * c ≤ length (now log)) × (c ≤ maxRecords) × (recordsSound maxPages (now log) c ≡ true) ⌝ }
-    ensures { λ a. ⌜ a ≡ sharesIn (now (log .entry)) c ⌝ }
+// The transactions still sought below record r: the first begin on the way down is its transaction's last.
+fn sought_next(sought: u32, r: Record) -> u32
+    requires { ⌜ r .txn < txnCount ⌝ }
+    ensures { λ s. ⌜ s ≡ soughtNext sought r ⌝ }
 {
-    let mut shares = [0u32; TXNS];
-    for i in 0..c {
+    if r.kind == records::BEGIN {
+        bits::without_bit(sought, r.txn as usize)
+    } else {
+        sought
+    }
+}
+
+// How many changes of its transaction were met, with record r.
+fn met_next(r: Record, x: u32) -> u32
+    requires { ⌜ x ≤ maxRecords ⌝ }
+    ensures { λ y. ⌜ y ≡ metNext r x ⌝ }
+{
+    if (r.kind == records::CREATE) | (r.kind == records::SET) {
+        x + 1
+    } else {
+        x
+    }
+}
+
+// Down the log until the last begin of every transaction in the mask is met. Where one has none the walk ends at the first record.
+// Records of others are passed over by a branch: what ended is most of a log, and a count would wait for the one before it.
+fn walk_down(log: &[u32], c: usize, mask: u32) -> Walk
+    requires { ⌜ (recordWords * c ≤ length (now log)) × (c ≤ maxRecords) × (recordsSound maxPages (now log) c ≡ true) ⌝ }
+    ensures { λ w. ⌜ WalkedTo (now (log .entry)) mask c 0 (w .sought) (w .changes) ⌝ }
+{
+    let mut sought = mask;
+    let mut changes = [0u32; TXNS];
+    let mut i = c;
+    while 0 < i {
+        if sought == 0 {
+            break;
+        }
+        i -= 1;
         let r = log_reader::record_at(log, i);
         let t = r.txn as usize;
-        let x = share_next(r.kind, shares[t]);
-        shares[t] = x;
+        if words::has_bit(sought, t) {
+            let x = met_next(r, changes[t]);
+            changes[t] = x;
+            sought = sought_next(sought, r);
+        }
     }
-    shares
+    Walk { sought, changes }
 }
 
-// What an active transaction reserves, by its share: a record to end it, and one for each of its changes.
-fn reserve_of(active: u32, t: usize, x: u32) -> u32
-    requires { ⌜ (t < txnCount) × (x ≤ maxRecords + 1) ⌝ }
-    ensures { λ y. ⌜ (y ≡ if (bit active t) (reserveBy x) 0) × (y ≤ maxRecords + 1) ⌝ }
+// How many changes of t are left, by what the walk met: none of one without a begin.
+fn left_of(sought: u32, t: usize, x: u32) -> u32
+    requires { ⌜ t < txnCount ⌝ }
+    ensures { λ y. ⌜ (y ≡ if (bit sought t) 0 x) × (y ≤ x) ⌝ }
+{
+    if words::has_bit(sought, t) { 0 } else { x }
+}
+
+// What an active transaction reserves: a record to end it, and one for each of its changes.
+fn reserve_of(active: u32, sought: u32, t: usize, x: u32) -> u32
+    requires { ⌜ (t < txnCount) × (x ≤ maxRecords) ⌝ }
+    ensures { λ y. ⌜ (y ≡ if (bit active t) (1 + if (bit sought t) 0 x) 0) × (y ≤ maxRecords + 1) ⌝ }
 {
     if !words::has_bit(active, t) {
         return 0;
     }
-    if x == 0 { 1 } else { x }
+    1 + left_of(sought, t, x)
 }
 
 // What the active transactions reserve.
@@ -59,10 +95,10 @@ pub fn reserved(log: &[u32], c: usize, active: u32) -> u32
     ensures { λ y. ⌜ ((w : List ℕ) → y ≡ reserved w (now (log .entry)) c active) ⌝ }
     ensures { λ y. ⌜ y ≤ txnCount * (maxRecords + 1) ⌝ }
 {
-    let shares = reserves(log, c);
+    let walk = walk_down(log, c, active);
     let mut sum: u32 = 0;
     for t in 0..TXNS {
-        sum += reserve_of(active, t, shares[t]);
+        sum += reserve_of(active, walk.sought, t, walk.changes[t]);
     }
     sum
 }
@@ -72,7 +108,6 @@ pub fn changes_left(log: &[u32], c: usize, t: usize) -> u32
     requires { ⌜ (recordWords * c ≤ length (now log)) × (c ≤ maxRecords) × (recordsSound maxPages (now log) c ≡ true) × (t < txnCount) ⌝ }
     ensures { λ y. ⌜ ((w : List ℕ) → y ≡ length (changesLeft w (now (log .entry)) c t)) ⌝ }
 {
-    let shares = reserves(log, c);
-    let x = shares[t];
-    if x == 0 { 0 } else { x - 1 }
+    let walk = walk_down(log, c, bits::mask_of(t));
+    left_of(walk.sought, t, walk.changes[t])
 }

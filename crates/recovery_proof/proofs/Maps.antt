@@ -3,33 +3,30 @@
 use Prim.Native.Nat.{ℕ, zero, suc, _+_, _*_, _/_, _%_, _≤_, _<_}
 use native.Mathlib.Omega.{arith}
 use mathlib.Core.Path.{_≡_, refl, sym, _∙_}
-use mathlib.Core.Bool.{Bool, true, false}
+use mathlib.Core.Bool.{true}
 use mathlib.Core.List.{List}
 use lib.ListN.{length, getD, set, replicate, length-replicate, getD-replicate}
 use lib.Seq.{ext-getD}
 use lib.Dec.{eqb}
-use Rattle.words.specs.Tests.{if, by-bool}
-use Rattle.words.specs.Bits.{bit, withBit, withoutBit, with-lt, without-le, bits-same}
+use Rattle.words.specs.Tests.{by-bool}
+use Rattle.words.specs.Bits.{withBit, withoutBit, with-lt, without-le, bits-same}
 use Rattle.pages.specs.Geometry.{pageAt, slotAt, objectAt, pageOf, slotOf, root, pageWords, objectCount, slotCount, slotWords, mapTop}
 use Rattle.pages.specs.Objects.{mapAt, taken, slotWord, cleared, takenSlot, freedSlot, releasedIn, formattedPages}
 use Rattle.pages.specs.Soundness.{areaSound}
 use Rattle.records.specs.declared.Record.{Record}
-use Rattle.records.specs.Records.{recordAt}
 use Rattle.records.specs.Effects.{effect, undone}
 use Rattle.records.specs.Soundness.{recordSound}
-use Rattle.records.specs.Order.{openIn, logSound}
-use Rattle.records.specs.Recovery.{redone, undoneIn, recovered}
+use Rattle.records.specs.Order.{logSound}
+use Rattle.records.specs.Recovery.{recovered}
 use Rattle.machine_view.specs.View.{view}
 use Rattle.page_laws.specs.BitLaws.{clear-le}
 use Rattle.page_laws.specs.Places.{map-put, map-set, map-released-in}
 use Rattle.page_laws.specs.SoundFacts.{sound-facts}
-use Rattle.record_laws.specs.EffectLaws.{length-if, length-undone, length-redone}
 use Rattle.machine_view.proofs.Places.{map-inside, slot-small, page-small, page-of-at, slot-of-at}
 use Rattle.record_laws.specs.RecordLaws.{sound-record, named-object}
 use Rattle.machine_view.proofs.Effects.{view-occ, view-word}
 use Rattle.machine_view.proofs.Records.{creates, sets, uncreates, frees, other, kind-of}
-use Rattle.recovery_proof.proofs.Reopening.{EachSound, log-sound}
-use Rattle.recovery_proof.proofs.Masks.{maskBefore}
+use Rattle.recovery_proof.proofs.Reopening.{recovered-keeps}
 
 -- no map above 65535
 abbrev pub Small : ℕ → List ℕ → Type 0
@@ -91,26 +88,8 @@ module _ (n : ℕ) (a : List ℕ) (len : length a ≡ pageWords * n) (r : Record
   ]
 
 -- reopening
-pub small-redone : (n : ℕ) (a g : List ℕ) → length a ≡ pageWords * n → Small n a → (c : ℕ) → EachSound n g c → Small n (redone a g c)
-unfolding redone
-small-redone n a g len h zero s = h
-small-redone n a g len h (suc i) s = small-effect n (redone a g i) (length-redone a g i ∙ len) (recordAt g i) (s i (omega arith))
-    (small-redone n a g len h i (λ j l. s j (omega arith)))
-
-pub small-undone-in : (n : ℕ) (g : List ℕ) (m c : ℕ) (a : List ℕ) → length a ≡ pageWords * n → Small n a → EachSound n g c → Small n (undoneIn g m c a)
-unfolding undoneIn
-small-undone-in n g m zero a len h s = h
-small-undone-in n g m (suc i) a len h s = small-undone-in n g (maskBefore m (recordAt g i)) i (if (bit m (recordAt g i .txn)) (undone a (recordAt g i)) a)
-    (length-if (bit m (recordAt g i .txn)) (undone a (recordAt g i)) a (length-undone a (recordAt g i)) ∙ len) (either (bit m (recordAt g i .txn))) (λ j l. s j (omega arith))
-  where
-    either : (b : Bool) → Small n (if b (undone a (recordAt g i)) a)
-    either true = small-undone n a len (recordAt g i) (s i (omega arith)) h
-    either false = h
-
 pub small-recovered : (n : ℕ) (a g : List ℕ) (c : ℕ) → length a ≡ pageWords * n → Small n a → logSound n g c ≡ true → Small n (recovered a g c)
-unfolding recovered
-small-recovered n a g c len h k = let s = log-sound n g c k .0 in
-    small-undone-in n g (openIn g c) c (redone a g c) (length-redone a g c ∙ len) (small-redone n a g len h c s) s
+small-recovered n a g c len h k = recovered-keeps n (Small n) (λ a l r ok m. small-effect n a l r ok m) (λ a l r ok m. small-undone n a l r ok m) a g c len k h
 
 -- Areas that show the same objects are the same.
 module _ (n : ℕ) (a b : List ℕ) (la : length a ≡ pageWords * n) (lb : length b ≡ pageWords * n) (ma : Small n a) (mb : Small n b) (same : (x : ℕ) → view a x ≡ view b x) where

@@ -3,25 +3,21 @@
 use Prim.Native.Nat.{ℕ, zero, suc, _+_, _≤_, _<_}
 use native.Mathlib.Omega.{arith}
 use native.Mathlib.Decide.{ℕ-discrete}
-use mathlib.Core.Path.{_≡_, refl, sym, _∙_}
-use mathlib.Core.Bool.{Bool, false, _&&_}
+use mathlib.Core.Path.{_≡_, refl}
+use mathlib.Core.Bool.{false}
 use mathlib.Core.List.{List}
-use lib.ListN.{length, getD, length-set, length-replicate}
-use lib.Seq.{getD-set-same, getD-set-other}
+use lib.ListN.{getD}
 use lib.Dec.{eqb}
-use borrow.Author.Tests.{eqb-true, eqb-false, eq-eqb}
-use Rattle.words.specs.Tests.{if, by-bool, clash}
+use borrow.Author.Tests.{eqb-true, eq-eqb}
+use Rattle.words.specs.Tests.{by-bool, clash}
 use Rattle.pages.specs.Geometry.{pageOf, maxPages}
 use Rattle.records.specs.declared.Record.{Record}
 use Rattle.records.specs.Records.{recordAt}
-use Rattle.records.specs.Naming.{namesPage, pageNamed, lastNaming}
+use Rattle.records.specs.Naming.{lastNaming}
+use Rattle.record_laws.specs.NamingLaws.{namesIt, last-more}
 use Rattle.book.specs.Pointers.{makesOrFrees, writes}
 use Rattle.recovery_proof.specs.Shapes.{recs, someOf, writesOcc, writesWord}
 use Rattle.recovery_proof.proofs.Shapes.{begins, creates, sets, commits, aborts, uncreates, rest, kind-of}
-
--- the record names page p
-abbrev pub namesIt : Record → ℕ → Bool
-namesIt r p = namesPage r && eqb (pageNamed r) p
 
 -- a record that does not name the page of x writes nothing of x
 unwritten : (r : Record) (x : ℕ) → namesIt r (pageOf x) ≡ false → (makesOrFrees r x ≡ false) × ((f : ℕ) → writes r x f ≡ false)
@@ -39,23 +35,6 @@ unwritten r x h = elim (kind-of r) [
   where
     apart : eqb (pageOf (r .object)) (pageOf x) ≡ false → eqb (r .object) x ≡ false
     apart e = by-bool (eqb (r .object) x) (λ z. clash (eq-eqb (pageOf (r .object)) (pageOf x) (rw (eqb-true (r .object) x z) refl)) e) (λ z. z)
-
-length-last : (g : List ℕ) (c : ℕ) → length (lastNaming g c) ≡ maxPages
-unfolding lastNaming
-length-last g zero = length-replicate {A = ℕ} maxPages 0
-length-last g (suc i) = by-bool (namesPage (recordAt g i))
-    (λ e. rw e (length-set (lastNaming g i) (pageNamed (recordAt g i)) (i + 1) ∙ length-last g i))
-    (λ e. rw e (length-last g i))
-
--- what the table says after one more record
-last-more : (g : List ℕ) (i p : ℕ) → p < maxPages
-    → getD (lastNaming g (suc i)) p 0 ≡ if (namesIt (recordAt g i) p) (i + 1) (getD (lastNaming g i) p 0)
-unfolding lastNaming
-last-more g i p l = by-bool (namesPage (recordAt g i))
-    (λ e. rw e (by-bool (eqb (pageNamed (recordAt g i)) p)
-    (λ z. rw (z, eqb-true (pageNamed (recordAt g i)) p z) (getD-set-same (lastNaming g i) p (i + 1) 0 (rw (length-last g i) l)))
-    (λ z. rw z (getD-set-other (lastNaming g i) (pageNamed (recordAt g i)) p (i + 1) 0 (λ y. eqb-false (pageNamed (recordAt g i)) p z (sym y))))))
-    (λ e. rw e refl)
 
 module _ (g : List ℕ) (k p : ℕ) (l : p < maxPages) where
   -- the records from k on do not name the page

@@ -9,7 +9,7 @@ use Rattle.words.specs.Tests.{if, by-bool, all-at, and-true, and-split}
 use Rattle.words.specs.Bits.{bit}
 use Rattle.records.specs.declared.Record.{Record}
 use Rattle.records.specs.Records.{recordAt}
-use Rattle.records.specs.Effects.{undone}
+use Rattle.records.specs.Effects.{effect, undone}
 use Rattle.records.specs.Soundness.{namesObject, recordSound}
 use Rattle.records.specs.Order.{openIn, inOrder, logSound}
 use Rattle.records.specs.Recovery.{redone, undoneIn, recovered}
@@ -86,3 +86,26 @@ module _ (n : ℕ) (a g : List ℕ) (c : ℕ) (len : length a ≡ pageWords * n)
   recovered-view x = let k = log-sound n g c s in
       undone-in-view n g (openIn g c) c (redone a g c) everyone (length-redone a g c ∙ len) (k .0) (k .1) (λ t. sym (and-true (bit (openIn g c) t))) x
       ∙ ap (undo x everyone (shapes (recs g c))) (redone-view n a g len c (k .0) x)
+
+-- what sound records keep, done and undone, reopening keeps
+module _ (n : ℕ) (P : List ℕ → Type 0)
+    (done : (a : List ℕ) → length a ≡ pageWords * n → (r : Record) → recordSound n r ≡ true → P a → P (effect a r))
+    (back : (a : List ℕ) → length a ≡ pageWords * n → (r : Record) → recordSound n r ≡ true → P a → P (undone a r)) where
+  redone-keeps : (a g : List ℕ) → length a ≡ pageWords * n → P a → (c : ℕ) → EachSound n g c → P (redone a g c)
+  unfolding redone
+  redone-keeps a g len h zero s = h
+  redone-keeps a g len h (suc i) s = done (redone a g i) (length-redone a g i ∙ len) (recordAt g i) (s i (omega arith)) (redone-keeps a g len h i (λ j l. s j (omega arith)))
+
+  undone-keeps : (g : List ℕ) (m c : ℕ) (a : List ℕ) → length a ≡ pageWords * n → P a → EachSound n g c → P (undoneIn g m c a)
+  unfolding undoneIn
+  undone-keeps g m zero a len h s = h
+  undone-keeps g m (suc i) a len h s = undone-keeps g (maskBefore m (recordAt g i)) i (if (bit m (recordAt g i .txn)) (undone a (recordAt g i)) a)
+      (length-if (bit m (recordAt g i .txn)) (undone a (recordAt g i)) a (length-undone a (recordAt g i)) ∙ len) (either (bit m (recordAt g i .txn))) (λ j l. s j (omega arith))
+    where
+      either : (b : Bool) → P (if b (undone a (recordAt g i)) a)
+      either true = back a len (recordAt g i) (s i (omega arith)) h
+      either false = h
+
+  pub recovered-keeps : (a g : List ℕ) (c : ℕ) → length a ≡ pageWords * n → logSound n g c ≡ true → P a → P (recovered a g c)
+  unfolding recovered
+  recovered-keeps a g c len k h = let s = log-sound n g c k .0 in undone-keeps g (openIn g c) c (redone a g c) (length-redone a g c ∙ len) (redone-keeps a g len h c s) s

@@ -7,10 +7,14 @@ use mathlib.Core.Bool.{Bool, true, false, _&&_}
 use mathlib.Core.List.{List, []}
 use lib.ListN.{length, getD}
 use lib.Dec.{eqb}
+use native.Mathlib.Omega.{arith}
 use borrow.Author.Tests.{lt-ltb, le-ltb, le-leb, lt-leb}
 use Rattle.words.specs.Tests.{and-t, and-f}
 use Rattle.words.specs.Spans.{same}
+use Rattle.pages.specs.Geometry.{maxPages}
 use Rattle.records.specs.Naming.{lastNaming}
+use Rattle.record_laws.specs.NamingLaws.{last-le}
+use Rattle.record_ops.specs.Naming.{NamedPast, past-some, past-none}
 use Rattle.areas.specs.declared.Refusal.the-variants.{OutOfRange, WrongState, Unstable, InUse}
 use Rattle.areas.specs.declared.Check.the-variants.{Accept, Refuse}
 use Rattle.areas.specs.Answers.{verdict, all-passed, need-holds, need-fails}
@@ -45,15 +49,21 @@ module _ (s : Areas) (n p : ℕ) where
   unfolding storeTests
   store-outside h = need-fails _ _ _ _ (le-ltb p n h)
 
-  -- l: the array of last record numbers
-  module _ (l : List ℕ) (e : l ≡ lastNaming (s .log) (receivedCount s)) (h : p < n) where
-    pub store-unstable : stableCount s < getD l p 0 → Refuse Unstable ≡ verdict (storeTests s n p)
+  module _ (h : p < n) (k : n ≤ maxPages) where
+    -- where all records are stable the last one that names the page is
+    pub store-settled : receivedCount s ≤ stableCount s → Accept ≡ verdict (storeTests s n p)
     unfolding storeTests
-    store-unstable u = need-fails _ _ _ _ (lt-leb _ _ (rw e at u)) ∙ need-holds _ _ _ _ (lt-ltb p n h)
+    store-settled u = all-passed ∙ need-holds _ _ _ _ (le-leb (getD (lastNaming (s .log) (receivedCount s)) p 0) _ (let l = last-le (s .log) p (omega arith) (receivedCount s) in omega arith)) ∙ need-holds _ _ _ _ (lt-ltb p n h)
 
-    pub store-passes : getD l p 0 ≤ stableCount s → Accept ≡ verdict (storeTests s n p)
-    unfolding storeTests
-    store-passes u = all-passed ∙ need-holds _ _ _ _ (le-leb _ _ (rw e at u)) ∙ need-holds _ _ _ _ (lt-ltb p n h)
+    -- l: the array of last record numbers past the stable ones
+    module _ (l : List ℕ) (w : NamedPast (s .log) (stableCount s) (receivedCount s) l) where
+      pub store-unstable : stableCount s < getD l p 0 → Refuse Unstable ≡ verdict (storeTests s n p)
+      unfolding storeTests
+      store-unstable u = need-fails _ _ _ _ (lt-leb _ _ (past-some _ _ (rw (w .each p (omega arith)) at u))) ∙ need-holds _ _ _ _ (lt-ltb p n h)
+
+      pub store-passes : getD l p 0 ≤ stableCount s → Accept ≡ verdict (storeTests s n p)
+      unfolding storeTests
+      store-passes u = all-passed ∙ need-holds _ _ _ _ (le-leb _ _ (past-none _ _ (rw (w .each p (omega arith)) at u))) ∙ need-holds _ _ _ _ (lt-ltb p n h)
 
 module _ (s : Areas) where
   abbrev idle : Bool

@@ -36,7 +36,8 @@ pub fn raise_stable(counts: &mut [u32]) -> u32
     stable
 }
 
-// Refusals 3 and 12 of a store of page p of n: the last record that names the page must be stable.
+// Refusals 3 and 12 of a store of page p of n: the last record that names the page must be stable, as it is where all are. Else those
+// that are not stable are looked at.
 pub fn store_check(log: &[u32], counts: &[u32], n: usize, p: u32) -> Check
     requires { ⌜ (n ≤ maxPages) × (countWords ≤ length (now counts)) × (getD (now counts) 0 0 ≤ maxRecords) × (recordWords * getD (now counts) 0 0 ≤ length (now log)) × (recordsSound n (now log) (getD (now counts) 0 0) ≡ true) ⌝ }
     ensures { λ r. ⌜ r ≡ verdict (storeTests (areas [] [] [] (now (log .entry)) (now (counts .entry)) []) n p) ⌝ }
@@ -45,7 +46,14 @@ pub fn store_check(log: &[u32], counts: &[u32], n: usize, p: u32) -> Check
     if n <= q {
         return Check::Refuse(Refusal::OutOfRange);
     }
-    let last = record_ops::last_naming(log, counts[layout::RECEIVED] as usize);
+    if counts[layout::RECEIVED] <= counts[layout::STABLE] {
+        return Check::Accept;
+    }
+    let last = record_ops::last_naming(
+        log,
+        counts[layout::STABLE] as usize,
+        counts[layout::RECEIVED] as usize,
+    );
     if counts[layout::STABLE] < last[q] {
         return Check::Refuse(Refusal::Unstable);
     }

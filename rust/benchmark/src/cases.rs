@@ -1,7 +1,7 @@
 //! For each call the state that it is measured in: accepted, refused on its own account, and
 //! refused with 1.
 
-use calls::{Call, Side};
+use calls::{Call, Server};
 use kophdaen::Store;
 use model::layout::*;
 
@@ -34,6 +34,13 @@ pub struct Case {
     pub floor: Floor,
 }
 
+impl Case {
+    /// Calls have led to every case's store but those that are refused with 1, which no held call may find.
+    pub fn has_held_form(&self) -> bool {
+        self.number != 1 && self.call.can_be_held()
+    }
+}
+
 /// The states that most cases start from.
 struct Base {
     size: Size,
@@ -44,6 +51,8 @@ struct Base {
     acting: Store,
     /// .. and flushed.
     flushed: Store,
+    /// The actor has acted, and another, which does nothing, has begun before every record in the log.
+    behind: Store,
 }
 
 impl Base {
@@ -62,8 +71,17 @@ impl Base {
         act(&mut acting);
         let mut flushed = acting.clone();
         flush_all(&mut flushed, ACTOR);
-        Base { size, fill, quiet, acting, flushed }
+        Base { size, fill, quiet, acting, flushed, behind: behind(size, before_actor) }
     }
+}
+
+/// The other's begin, and the record that is reserved to end it, take the room of two.
+fn behind(size: Size, before_actor: usize) -> Store {
+    let mut store = populated(size);
+    accept(store.begin(OTHER));
+    fill_log(&mut store, before_actor.saturating_sub(2));
+    act(&mut store);
+    store
 }
 
 pub fn cases(size: Size, fill: Fill) -> Vec<Case> {
@@ -170,6 +188,7 @@ fn objects(base: &Base, list: &mut Vec<Case>) {
     let set = |word| Call::SetWord(ACTOR, ROOT, 1, word);
     let unknown = (SLOTS * base.size.pages) as u32 + 1;
     add_three(list, "set_word", (state, set(child)), 7, (state, set(unknown)));
+    add(list, "set_word (old begin)", 0, &base.behind, set(child));
 }
 
 /// Refused where the image's last word differs.

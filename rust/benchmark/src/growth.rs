@@ -6,9 +6,21 @@ use crate::cases::{cases, Case};
 use crate::states::{Fill, Size};
 use crate::timing::{measure, Times};
 
-/// Calls by name and answer: the check alone, a change, an end, a store, a step, a reopening.
-const CALLS: [(&str, u32); 6] =
-    [("lock_read", 4), ("set_word", 0), ("commit", 0), ("store_page", 0), ("pass_step (mark)", 0), ("reopen", 0)];
+/// Calls by name and answer: the check alone, changes, ends, stores, a pass, a reopening.
+const CALLS: [(&str, u32); 12] = [
+    ("lock_read", 4),
+    ("begin", 0),
+    ("set_word", 0),
+    ("set_word (old begin)", 0),
+    ("commit", 0),
+    ("abort", 0),
+    ("store_page", 0),
+    ("empty_log", 0),
+    ("start_pass", 0),
+    ("pass_step (mark)", 0),
+    ("pass_step (turn)", 0),
+    ("reopen", 0),
+];
 
 pub struct Growth {
     pub name: &'static str,

@@ -1,4 +1,5 @@
-//! Times the proved library, the model, a plain sum and SQLite in one run, and writes docs/BENCHMARKS.md.
+//! Times the proved library, lent and held, the model, a plain sum and SQLite in one run, and writes
+//! docs/BENCHMARKS.md.
 //!
 //!   benchmark DIRECTORY FILE
 //!
@@ -8,11 +9,14 @@ mod cases;
 mod damage;
 mod disk;
 mod growth;
+mod losses;
 mod machine;
 mod random;
+mod reads;
 mod report;
 mod runs;
 mod sqlite;
+mod starts;
 mod states;
 mod tables;
 mod timing;
@@ -47,7 +51,8 @@ fn main() {
         tables: [LARGE, SMALL].map(|size| Table { size, rows: rows(size, clock, brief) }).into(),
         pages: (growth::by_pages(), growth::grow(&growth::by_pages(), clock, brief)),
         records: (growth::by_records(), growth::grow(&growth::by_records(), clock, brief)),
-        workloads: PLANS.map(|plan| runs::workload(plan, 3, directory)).into(),
+        workloads: PLANS.map(|plan| runs::workload(plan, 3, directory, clock)).into(),
+        starts: starts::starts(LARGE, clock, brief),
         machine: machine::describe(disk::sync_time(directory)),
     };
     std::fs::write(file, report::page(&results)).expect("the page is written");

@@ -4,8 +4,11 @@ use std::fmt::Write;
 
 use crate::cases::Floor;
 use crate::growth::Growth;
+use crate::losses::losses;
+use crate::reads::reads;
 use crate::runs::Workload;
-use crate::states::{Size, FILLS};
+use crate::starts::Start;
+use crate::states::{Fill, Size, FILLS};
 use crate::timing::Times;
 use crate::workload::USES;
 
@@ -31,6 +34,7 @@ pub struct Results {
     pub pages: (Vec<Size>, Vec<Growth>),
     pub records: (Vec<Size>, Vec<Growth>),
     pub workloads: Vec<Workload>,
+    pub starts: Vec<Start>,
 }
 
 pub fn page(results: &Results) -> String {
@@ -39,6 +43,9 @@ pub fn page(results: &Results) -> String {
     results.machine.iter().for_each(|(what, which)| line(&mut page, &[what.to_string(), which.clone()]));
     page += "\n## Where it loses\n\n";
     page += &losses(results);
+    page += include_str!("../page/reads.md");
+    page += &reads(&results.tables[0]);
+    page += &starts(&results.starts);
     page += include_str!("../page/check.md");
     page += &check(results);
     page += include_str!("../page/calls.md");
@@ -52,20 +59,20 @@ pub fn page(results: &Results) -> String {
     page
 }
 
-fn line(page: &mut String, cells: &[String]) {
+pub fn line(page: &mut String, cells: &[String]) {
     writeln!(page, "| {} |", cells.join(" | ")).unwrap();
 }
 
-fn head(page: &mut String, cells: &[String]) {
+pub fn head(page: &mut String, cells: &[String]) {
     line(page, cells);
     writeln!(page, "|{}", "---|".repeat(cells.len())).unwrap();
 }
 
-fn name(size: Size) -> String {
+pub fn name(size: Size) -> String {
     format!("P = {}, L = {}", size.pages, size.records)
 }
 
-fn answer(number: u32) -> String {
+pub fn answer(number: u32) -> String {
     if number == 0 {
         "accepted".to_string()
     } else {
@@ -83,7 +90,7 @@ fn micros(nanos: f64) -> String {
     }
 }
 
-fn ratio(of: f64, to: f64) -> String {
+pub fn ratio(of: f64, to: f64) -> String {
     if to <= 0.0 {
         "-".to_string()
     } else {
@@ -91,73 +98,107 @@ fn ratio(of: f64, to: f64) -> String {
     }
 }
 
+/// Nanoseconds, or microseconds where there are many.
+pub fn duration(nanos: f64) -> String {
+    if nanos < 1e3 {
+        format!("{nanos:.0} ns")
+    } else {
+        format!("{} µs", micros(nanos))
+    }
+}
+
+/// Of what not every case has.
+fn some(time: Option<f64>, show: impl Fn(f64) -> String) -> String {
+    time.map_or("-".to_string(), show)
+}
+
+fn starts(list: &[Start]) -> String {
+    let mut page = include_str!("../page/starts.md").to_string();
+    head(&mut page, &["disk", "`kophdaen_whole`", "`Held::open`"].map(String::from));
+    for start in list {
+        line(&mut page, &[start.disk.to_string(), duration(start.whole), duration(start.open)]);
+    }
+    page
+}
+
 fn check(results: &Results) -> String {
     let mut page = String::new();
-    let heads = ["size", "log", "library", "model", "floor", "library / floor", "library / model"];
+    let heads = ["size", "log", "lent", "held", "model", "floor", "lent / floor", "lent / model"];
     head(&mut page, &heads.map(String::from));
     for (size, times) in &results.check {
         for (fill, t) in FILLS.iter().zip(times) {
-            let cells = [micros(t.library), micros(t.model), micros(t.floor)];
-            let ratios = [ratio(t.library, t.floor), ratio(t.library, t.model)];
+            let cells = [micros(t.lent), some(t.held, micros), micros(t.model), micros(t.floor)];
+            let ratios = [ratio(t.lent, t.floor), ratio(t.lent, t.model)];
             let named = [name(*size), fill.name().to_string()];
             line(&mut page, &[&named[..], &cells[..], &ratios[..]].concat());
         }
     }
     page += include_str!("../page/damage.md");
-    head(&mut page, &["damaged", "library", "model", "library / model"].map(String::from));
+    head(&mut page, &["damaged", "lent", "model", "lent / model"].map(String::from));
     for (place, t) in &results.damages {
-        line(&mut page, &[place.to_string(), micros(t.library), micros(t.model), ratio(t.library, t.model)]);
+        line(&mut page, &[place.to_string(), micros(t.lent), micros(t.model), ratio(t.lent, t.model)]);
     }
     page
 }
 
 fn calls(table: &Table) -> String {
-    let mut page = format!("\n### {}\n\n", name(table.size));
-    let floors = floors(table);
-    writeln!(page, "Floor of the six areas: {} µs.\n", floors.map(micros).join(", ")).unwrap();
-    let mut heads = vec!["call".to_string(), "answer".to_string()];
-    for fill in FILLS {
-        heads.extend(["library", "model", "/ model", "/ floor"].map(|what| format!("{}: {what}", fill.name())));
+    let mut page = format!("\n### {}\n", name(table.size));
+    for (i, fill) in FILLS.into_iter().enumerate() {
+        page += &calls_at(table, i, fill);
     }
-    head(&mut page, &heads);
+    page
+}
+
+fn calls_at(table: &Table, i: usize, fill: Fill) -> String {
+    let all = floor(table, i);
+    let mut page = format!("\nLog {}. Floor of the six areas: {} µs.\n\n", fill.name(), micros(all));
+    let heads = ["call", "answer", "lent", "held", "held / lent", "model", "lent / model", "lent / floor"];
+    head(&mut page, &heads.map(String::from));
     for row in &table.rows {
-        let mut cells = vec![format!("`{}`", row.name), answer(row.number)];
-        for (t, floor) in row.times.iter().zip(floors) {
-            let floor = match row.floor {
-                Floor::All => floor,
-                Floor::Stable => t.floor,
-                Floor::Nothing => 0.0,
-            };
-            cells.extend([micros(t.library), micros(t.model), ratio(t.library, t.model), ratio(t.library, floor)]);
-        }
+        let t = row.times[i];
+        let floor = match row.floor {
+            Floor::All => all,
+            Floor::Stable => t.floor,
+            Floor::Nothing => 0.0,
+        };
+        let cells = [
+            format!("`{}`", row.name),
+            answer(row.number),
+            micros(t.lent),
+            some(t.held, micros),
+            some(t.held, |held| format!("{:.3}", held / t.lent)),
+            micros(t.model),
+            ratio(t.lent, t.model),
+            ratio(t.lent, floor),
+        ];
         line(&mut page, &cells);
     }
     page
 }
 
 /// The sum over the six areas is the same work in every case: the least of all its samples.
-fn floors(table: &Table) -> [f64; 3] {
-    [0, 1, 2].map(|fill| {
-        let all = table.rows.iter().filter(|row| row.floor == Floor::All);
-        all.map(|row| row.times[fill].floor).fold(f64::MAX, f64::min)
-    })
+fn floor(table: &Table, fill: usize) -> f64 {
+    let all = table.rows.iter().filter(|row| row.floor == Floor::All);
+    all.map(|row| row.times[fill].floor).fold(f64::MAX, f64::min)
 }
 
 fn growth(what: &str, (sizes, table): &(Vec<Size>, Vec<Growth>), of: fn(&Size) -> usize, unit: &str) -> String {
     let mut page = "\n".to_string();
     let mut heads = vec!["call".to_string(), "answer".to_string()];
     heads.extend(sizes.iter().map(|size| format!("{} {}", what.split(' ').next().unwrap_or(""), of(size))));
-    heads.push(format!("ns for one more {unit}: library"));
-    heads.push("model".to_string());
-    heads.push("floor".to_string());
+    heads.push(format!("ns for one more {unit}: held"));
+    heads.extend(["lent", "model", "floor"].map(String::from));
     head(&mut page, &heads);
     let more = (of(&sizes[sizes.len() - 1]) - of(&sizes[0])) as f64;
     for grown in table {
         let mut cells = vec![format!("`{}`", grown.name), answer(grown.number)];
-        cells.extend(grown.times.iter().map(|t| format!("{} ({})", micros(t.library), micros(t.model))));
+        let shown = |t: &Times| format!("{}, {} ({})", some(t.held, micros), micros(t.lent), micros(t.model));
+        cells.extend(grown.times.iter().map(shown));
         let (first, last) = (grown.times[0], grown.times[grown.times.len() - 1]);
-        for (to, from) in [(last.library, first.library), (last.model, first.model), (last.floor, first.floor)] {
-            cells.push(format!("{:.1}", (to - from) / more));
+        let slope = |to: f64, from: f64| format!("{:.2}", (to - from) / more);
+        cells.push(some(last.held, |held| slope(held, first.held.unwrap_or(held))));
+        for (to, from) in [(last.lent, first.lent), (last.model, first.model), (last.floor, first.floor)] {
+            cells.push(slope(to, from));
         }
         line(&mut page, &cells);
     }
@@ -183,77 +224,26 @@ fn rates(workload: &Workload) -> String {
         let costs = [rates.without / rates.with - 1.0, rates.share].map(|cost| format!("{:.1} %", 100.0 * cost));
         line(&mut page, &[&[who.clone(), sync][..], &speeds[..], &costs[..]].concat());
     }
-    page += "\nThe library's time by use, in memory, with the pass beside:\n\n";
-    head(&mut page, &["use", "share"].map(String::from));
-    for (used, what) in USES {
-        line(&mut page, &[what.to_string(), format!("{:.1} %", 100.0 * workload.uses[used as usize])]);
+    page += "\nTransactions with the collector over those of SQLite, where both wait alike for the disk:\n\n";
+    head(&mut page, &["SQLite", "held", "lent"].map(String::from));
+    for against in workload.against() {
+        let times = against.own.map(|(_, own)| format!("{:.2}", own / against.rate));
+        line(&mut page, &[&[against.name][..], &times[..]].concat());
     }
+    page += &uses(workload);
     writeln!(page, "\nSteps made because the client found no free slots: {}.", workload.waits).unwrap();
     page
 }
 
-/// What is slower than something that it is held to, plainly.
-fn losses(results: &Results) -> String {
-    let mut list = Vec::new();
-    for (size, times) in &results.check {
-        for (fill, t) in FILLS.iter().zip(times).filter(|(_, t)| t.library > 2.0 * t.floor) {
-            let by = ratio(t.library, t.floor);
-            list.push(format!(
-                "The check of refusal 1, {}, {} log: {by} times the floor.",
-                name(*size),
-                fill.name()
-            ));
-        }
+fn uses(workload: &Workload) -> String {
+    let mut page = "\nThe time by use, in memory, with the pass beside:\n\n".to_string();
+    head(&mut page, &["use", "held", "lent"].map(String::from));
+    let percent = |share: f64| format!("{:.1} %", 100.0 * share);
+    for (used, what) in USES {
+        let shares = workload.uses.map(|shares| percent(shares[used as usize]));
+        line(&mut page, &[&[what.to_string()][..], &shares[..]].concat());
     }
-    for table in &results.tables {
-        for row in &table.rows {
-            let call = format!("`{}`, {}, {}", row.name, answer(row.number), name(table.size));
-            list.extend(call_loss(&call, FILLS.map(|fill| format!("{} log", fill.name())).iter().zip(&row.times)));
-        }
-    }
-    for (sizes, table) in [&results.pages, &results.records] {
-        for grown in table {
-            let call = format!("`{}`, {}, full log", grown.name, answer(grown.number));
-            let places: Vec<String> = sizes.iter().map(|size| name(*size)).collect();
-            list.extend(call_loss(&call, places.iter().zip(&grown.times)));
-        }
-    }
-    for (place, t) in results.damages.iter().filter(|(_, t)| slower(t)) {
-        list.push(format!("Refusal 1, damaged {place}: {} times the model.", ratio(t.library, t.model)));
-    }
-    results.workloads.iter().for_each(|workload| sqlite_losses(workload, &mut list));
-    if list.is_empty() {
-        return "Nowhere in this run.\n".to_string();
-    }
-    list.iter().map(|loss| format!("- {loss}\n")).collect()
-}
-
-/// Where a call is slower than the model, in one line.
-fn call_loss<'a>(call: &str, places: impl Iterator<Item = (&'a String, &'a Times)>) -> Option<String> {
-    let lost: Vec<String> = places
-        .filter(|(_, t)| slower(t))
-        .map(|(place, t)| format!("{} ({place})", ratio(t.library, t.model)))
-        .collect();
-    (!lost.is_empty()).then(|| format!("{call}: {} times the model.", lost.join(", ")))
-}
-
-/// Slower than the model by more than the clock's grain and the noise.
-fn slower(t: &Times) -> bool {
-    t.library > 1.05 * t.model && t.library > t.model + 20.0
-}
-
-/// SQLite held to the library that waits for the disk as it does.
-fn sqlite_losses(workload: &Workload, list: &mut Vec<String>) {
-    let rate =
-        |who: &str| workload.rates.iter().find(|(name, _)| name == who).map_or(0.0, |(_, rates)| rates.with);
-    for (who, rates) in workload.rates.iter().filter(|(who, _)| who.starts_with("SQLite")) {
-        let on_disk = who.contains("FULL");
-        let own = if on_disk { "library, one sync a transaction" } else { "library, in memory" };
-        if rates.with > 1.05 * rate(own) {
-            let place = name(workload.plan.size);
-            let by =
-                format!("{:.1} times ({:.0} to {:.0} a second)", rates.with / rate(own), rates.with, rate(own));
-            list.push(format!("Workload, {place}: {who}, runs {by} as many transactions as: {own}."));
-        }
-    }
+    let rest = workload.uses.map(|shares| percent(1.0 - shares.iter().sum::<f64>()));
+    line(&mut page, &[&["the client's own".to_string()][..], &rest[..]].concat());
+    page
 }

@@ -54,9 +54,7 @@ pub fn populated(size: Size) -> Store {
         garbage.push(taken[0]);
         tree.extend(&taken[1..]);
     }
-    for i in (2..tree.len()).rev() {
-        tree.swap(i, 1 + random.below(i));
-    }
+    shuffle(&mut tree, &mut random);
     for &object in tree.iter().chain(&garbage) {
         occupy(&mut store.stored, object, &mut random);
     }
@@ -69,6 +67,29 @@ pub fn populated(size: Size) -> Store {
     store.copies.clone_from(&store.stored);
     store.received.clone_from(&store.stored);
     store
+}
+
+/// A page area in which every slot is occupied, and the root reaches all objects: a tree of four references
+/// each, in an order by chance.
+pub fn crowded(pages: usize) -> Vec<u32> {
+    let mut random = Random::new(1);
+    let mut area = vec![0; PAGE_WORDS * pages];
+    let mut tree: Vec<u32> = (ROOT..).take(SLOTS * pages).collect();
+    shuffle(&mut tree, &mut random);
+    for (i, &object) in tree.iter().enumerate() {
+        occupy(&mut area, object, &mut random);
+        if i > 0 {
+            area[word_at(tree[(i - 1) / 4], (i - 1) % 4)] = object;
+        }
+    }
+    area
+}
+
+/// All but the first, the root, change places.
+fn shuffle(tree: &mut [u32], random: &mut Random) {
+    for i in (2..tree.len()).rev() {
+        tree.swap(i, 1 + random.below(i));
+    }
 }
 
 fn occupy(area: &mut [u32], object: u32, random: &mut Random) {

@@ -102,13 +102,14 @@ impl Shop {
         self.commit.run(&[]);
     }
 
-    /// Transactions in so much time, and the seconds taken. It goes on to the first collection, where there
-    /// are any, unless that takes far longer.
+    /// Transactions in so much time, and the seconds taken; where there are collections it goes on to one, unless
+    /// that takes far longer.
     pub fn run_for(&mut self, time: Duration) -> (usize, f64) {
+        let before = self.run;
         let started = Instant::now();
         let collects = self.plan.steps > 0;
-        let waits = |shop: &Shop| collects && shop.run < BETWEEN && started.elapsed() < 5 * time;
-        while started.elapsed() < time || waits(self) {
+        let goes = |run: usize, spent: Duration| spent < time || collects && run < BETWEEN && spent < 5 * time;
+        while goes(self.run - before, started.elapsed()) {
             self.transaction();
             if collects && self.run.is_multiple_of(BETWEEN) {
                 let started = Instant::now();
@@ -116,7 +117,7 @@ impl Shop {
                 self.collecting += started.elapsed().as_secs_f64();
             }
         }
-        (self.run, started.elapsed().as_secs_f64())
+        (self.run - before, started.elapsed().as_secs_f64())
     }
 
     pub fn transaction(&mut self) {

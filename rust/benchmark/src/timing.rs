@@ -1,10 +1,11 @@
-//! Times of one case on the library, on the model and of the floor, taken in turns over the same memory.
+//! Times of one case on the library, lent and held, on the model and of the floor, taken in turns over the
+//! same memory.
 
 use std::hint::black_box;
 use std::time::{Duration, Instant};
 
-use calls::{Lent, Side};
-use kophdaen::{Store, OBJECT_WORDS};
+use calls::{Lent, Server};
+use kophdaen::{Held, Store, OBJECT_WORDS};
 use model::layout::{Areas, AREAS, RECORD_WORDS, STABLE_COUNT};
 use model::Model;
 
@@ -13,45 +14,49 @@ use crate::cases::{Case, Floor};
 /// Nanoseconds, each the least of its samples.
 #[derive(Clone, Copy)]
 pub struct Times {
-    pub library: f64,
+    pub lent: f64,
+    /// Of the held form, where it may be called.
+    pub held: Option<f64>,
     pub model: f64,
     pub floor: f64,
 }
 
-/// The three are sampled in turns until the time is spent, at least so often. Before each sample the
-/// areas become those of the case again, so that each finds them in the caches alike.
+/// All are sampled in turns until the time is spent, at least so often. Before each sample the areas become
+/// those of the case again, so that each finds them in the caches alike.
 pub fn measure(case: &Case, clock: f64, budget: Duration) -> Times {
     check_same(case);
     let mut areas = case.areas.clone();
-    let mut least = Times { library: f64::MAX, model: f64::MAX, floor: f64::MAX };
+    let [mut lent, mut held, mut model, mut plain] = [f64::MAX; 4];
     let started = Instant::now();
     let mut samples = 0;
     while samples < 7 || started.elapsed() < budget {
-        let time;
-        (areas, time) = sample::<Store>(case, areas);
-        least.library = least.library.min(time - clock);
-        let time;
-        (areas, time) = sample::<Model>(case, areas);
-        least.model = least.model.min(time - clock);
-        least.floor = least.floor.min(floor(case, &mut areas) - clock);
+        areas = sample::<Store>(case, areas, &mut lent);
+        if case.has_held_form() {
+            areas = sample::<Held>(case, areas, &mut held);
+        }
+        areas = sample::<Model>(case, areas, &mut model);
+        plain = plain.min(floor(case, &mut areas));
         samples += 1;
     }
-    least
+    let held = case.has_held_form().then_some(held - clock);
+    Times { lent: lent - clock, held, model: model - clock, floor: plain - clock }
 }
 
 fn restore(areas: &mut Areas, from: &Areas) {
     AREAS.iter().for_each(|&area| areas.of_mut(area).copy_from_slice(from.of(area)));
 }
 
-fn sample<S: Side>(case: &Case, mut areas: Areas) -> (Areas, f64) {
+/// One call, after which `least` is no longer than it took.
+fn sample<S: Server>(case: &Case, mut areas: Areas, least: &mut f64) -> Areas {
     restore(&mut areas, &case.areas);
-    let mut side = S::lend(areas);
+    // SAFETY: held only where the case has a held form.
+    let mut side = unsafe { S::over(areas) };
     let mut buffer = [0; OBJECT_WORDS];
     let started = Instant::now();
     let lent = Lent { buffer: black_box(&mut buffer), image: black_box(&case.image) };
     black_box(side.perform(black_box(case.call), lent));
-    let time = started.elapsed().as_nanos() as f64;
-    (side.back(), time)
+    *least = least.min(started.elapsed().as_nanos() as f64);
+    side.back()
 }
 
 fn floor(case: &Case, areas: &mut Areas) -> f64 {
@@ -74,16 +79,18 @@ fn sum(areas: [&[u32]; 6]) -> u32 {
         .fold(0, u32::wrapping_add)
 }
 
-/// Both sides must answer what the case says, and leave the same words.
+/// All must answer what the case says, and leave the same words.
 fn check_same(case: &Case) {
     let library = made::<Store>(case);
     assert_eq!((library.0 >> 32) as u32, case.number, "{}", case.name);
-    assert!(library == made::<Model>(case), "{}: the sides differ", case.name);
+    assert!(library == made::<Model>(case), "{}: library and model differ", case.name);
+    assert!(!case.has_held_form() || library == made::<Held>(case), "{}: the held form differs", case.name);
 }
 
-/// What a side makes of the case: answer, buffer and areas.
-fn made<S: Side>(case: &Case) -> (u64, [u32; OBJECT_WORDS], Areas) {
-    let mut side = S::lend(case.areas.clone());
+/// What a server makes of the case: answer, buffer and areas.
+fn made<S: Server>(case: &Case) -> (u64, [u32; OBJECT_WORDS], Areas) {
+    // SAFETY: held only where the case has a held form.
+    let mut side = unsafe { S::over(case.areas.clone()) };
     let mut buffer = [0; OBJECT_WORDS];
     let answer = side.perform(case.call, Lent { buffer: &mut buffer, image: &case.image });
     (answer, buffer, side.back())

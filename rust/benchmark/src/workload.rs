@@ -2,7 +2,7 @@
 
 use std::time::{Duration, Instant};
 
-use calls::{Call, Lent, Side};
+use calls::{Call, Lent, Server};
 use kophdaen::{Answer, Store, OBJECT_WORDS};
 use model::layout::*;
 
@@ -70,7 +70,7 @@ pub const USES: [(Use, &str); 6] = [
 ];
 
 /// A server with its one client.
-pub struct Depot<S: Side> {
+pub struct Depot<S: Server> {
     side: S,
     pub plan: Plan,
     random: Random,
@@ -83,38 +83,56 @@ pub struct Depot<S: Side> {
     /// Pages whose copy may be unlike the stored page.
     dirty: Vec<bool>,
     disk: Option<Disk>,
-    timed: bool,
-    /// Seconds by use; the collector's are always kept.
-    pub times: [f64; 6],
+    /// What reading the clock takes, in seconds, where calls are timed.
+    timed: Option<f64>,
+    /// Seconds by use, and the calls that were timed.
+    times: [f64; 6],
+    calls: usize,
 }
 
-impl<S: Side> Depot<S> {
+/// Where the time went: shares of it by use; the rest is the client's and the disk's.
+pub type Shares = [f64; 6];
+
+impl<S: Server> Depot<S> {
     pub fn new(plan: Plan, disk: Option<Disk>) -> Depot<S> {
+        // SAFETY: calls lead to the directory's words, and nothing but calls is done to them here.
+        let side = unsafe { S::over(directory(plan).back()) };
         let dirty = vec![false; plan.size.pages];
-        let side = S::lend(directory(plan).back());
-        let random = Random::new(4);
-        Depot { side, plan, random, run: 0, waits: 0, page: 0, dirty, disk, timed: false, times: [0.0; 6] }
+        Depot {
+            side,
+            plan,
+            random: Random::new(4),
+            run: 0,
+            waits: 0,
+            page: 0,
+            dirty,
+            disk,
+            timed: None,
+            times: [0.0; 6],
+            calls: 0,
+        }
     }
 
-    /// Transactions in so much time, and the seconds taken.
-    pub fn run_for(&mut self, time: Duration) -> (usize, f64) {
-        self.run_at_most(usize::MAX, time)
-    }
-
-    pub fn run_at_most(&mut self, most: usize, time: Duration) -> (usize, f64) {
+    /// At least so many transactions, and so much time; at most three times as long. Answers how many, and the
+    /// seconds taken.
+    pub fn run_for(&mut self, least: usize, time: Duration) -> (usize, f64) {
         let before = self.run;
         let started = Instant::now();
-        while self.run - before < most && started.elapsed() < time && self.has_room() {
+        let goes = |run: usize, spent: Duration| spent < time || run < least && spent < 3 * time;
+        while goes(self.run - before, started.elapsed()) && self.has_room() {
             self.transaction();
         }
         (self.run - before, started.elapsed().as_secs_f64())
     }
 
-    /// The same, with the time of every call kept by its use.
-    pub fn run_timed(&mut self, time: Duration) -> (usize, f64) {
-        self.times = [0.0; 6];
-        self.timed = true;
-        self.run_for(time)
+    /// The same, with every call timed: the clock, which takes so many nanoseconds, is read twice for each.
+    pub fn run_timed(&mut self, least: usize, time: Duration, clock: f64) -> Shares {
+        let clock = clock / 1e9;
+        (self.times, self.calls, self.timed) = ([0.0; 6], 0, Some(clock));
+        let (_, seconds) = self.run_for(least, time);
+        self.timed = None;
+        let all = seconds - 2.0 * clock * self.calls as f64;
+        self.times.map(|time| time / all)
     }
 
     /// Without a collector the store fills up.
@@ -127,12 +145,13 @@ impl<S: Side> Depot<S> {
     }
 
     fn call_with(&mut self, used: Use, call: Call, image: &[u32]) -> u32 {
-        let started = (self.timed || used == Use::Collecting).then(Instant::now);
+        let started = self.timed.map(|clock| (Instant::now(), clock));
         let lent = Lent { buffer: &mut [0; OBJECT_WORDS], image };
         let answer = Answer::from_code(self.side.perform(call, lent));
         accept(answer);
-        if let Some(started) = started {
-            self.times[used as usize] += started.elapsed().as_secs_f64();
+        if let Some((started, clock)) = started {
+            self.times[used as usize] += started.elapsed().as_secs_f64() - clock;
+            self.calls += 1;
         }
         answer.value
     }
@@ -150,13 +169,14 @@ impl<S: Side> Depot<S> {
         let pages = self.change(t, lowest);
         self.pass_step();
         for page in pages {
-            let image = self.side.area(Area::Received)[page_range(page)].to_vec();
+            let image: [u32; PAGE_WORDS] =
+                self.side.area(Area::Received)[page_range(page)].try_into().expect("a page");
             self.call_with(Use::Ending, Call::Flush(t, page as u32), &image);
             self.dirty[page] = true;
         }
         self.call(Use::Ending, Call::Commit(t));
-        self.force_all();
         (2..self.plan.steps).for_each(|_| self.pass_step());
+        self.force_all();
         self.run += 1;
     }
 

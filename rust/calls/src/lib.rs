@@ -1,11 +1,12 @@
-//! Document 01's calls as values, and how the proved library and the model make them.
+//! Document 01's calls as values, and how the proved library, lent or holding its areas, and the model make
+//! them.
 //!
-//! A new call is one line of the table in table.rs, beside the methods that the two sides have for it.
+//! A new call is one line of the table in table.rs, beside the methods that each has for it.
 
 mod sides;
 mod table;
 
-pub use sides::Side;
+pub use sides::{Server, Side};
 pub use table::{Call, NAMES};
 
 /// What a call may be lent beside the areas: read takes the buffer, flush the image.

@@ -1,14 +1,19 @@
-//! The two sides, library and model: each has the six areas, and takes calls and cuts.
+//! Who makes calls: the library, lent its areas or holding them, and the model.
 
-use kophdaen::Store;
+use kophdaen::{Held, Store};
 use model::layout::{Area, Areas};
 use model::{Fault, Model};
 
 use crate::{Call, Lent};
 
-pub trait Side {
-    /// A side over these areas, and the areas back from it.
-    fn lend(areas: Areas) -> Self
+/// Has the six areas, shows them, and takes calls.
+pub trait Server {
+    /// A server over these areas, and the areas back from it.
+    ///
+    /// # Safety
+    ///
+    /// Of one that holds its areas: what [`Held::assume`] asks for. Of the others nothing is asked.
+    unsafe fn over(areas: Areas) -> Self
     where
         Self: Sized;
     fn back(self) -> Areas
@@ -17,13 +22,17 @@ pub trait Side {
 
     /// Makes the call; the answer as the C functions code it.
     fn perform(&mut self, call: Call, lent: Lent) -> u64;
+    fn area(&self, area: Area) -> &[u32];
+}
+
+/// A server whose areas may hold anything: library and model, which are compared.
+pub trait Side: Server {
     fn cut(&mut self);
-    fn area(&self, area: Area) -> &Vec<u32>;
     fn area_mut(&mut self, area: Area) -> &mut Vec<u32>;
 }
 
-impl Side for Model {
-    fn lend(areas: Areas) -> Model {
+impl Server for Model {
+    unsafe fn over(areas: Areas) -> Model {
         Model { areas, fault: Fault::None }
     }
 
@@ -35,12 +44,14 @@ impl Side for Model {
         call.on_model(self, lent)
     }
 
+    fn area(&self, area: Area) -> &[u32] {
+        self.areas.of(area)
+    }
+}
+
+impl Side for Model {
     fn cut(&mut self) {
         Model::cut(self);
-    }
-
-    fn area(&self, area: Area) -> &Vec<u32> {
-        self.areas.of(area)
     }
 
     fn area_mut(&mut self, area: Area) -> &mut Vec<u32> {
@@ -48,8 +59,8 @@ impl Side for Model {
     }
 }
 
-impl Side for Store {
-    fn lend(a: Areas) -> Store {
+impl Server for Store {
+    unsafe fn over(a: Areas) -> Store {
         let Areas { stored, copies, received, log, counts, work } = a;
         Store { stored, copies, received, log, counts, work }
     }
@@ -63,11 +74,7 @@ impl Side for Store {
         call.on_library(self, lent)
     }
 
-    fn cut(&mut self) {
-        Store::cut(self);
-    }
-
-    fn area(&self, area: Area) -> &Vec<u32> {
+    fn area(&self, area: Area) -> &[u32] {
         match area {
             Area::Stored => &self.stored,
             Area::Copies => &self.copies,
@@ -76,6 +83,12 @@ impl Side for Store {
             Area::Counts => &self.counts,
             Area::Work => &self.work,
         }
+    }
+}
+
+impl Side for Store {
+    fn cut(&mut self) {
+        Store::cut(self);
     }
 
     fn area_mut(&mut self, area: Area) -> &mut Vec<u32> {
@@ -86,6 +99,32 @@ impl Side for Store {
             Area::Log => &mut self.log,
             Area::Counts => &mut self.counts,
             Area::Work => &mut self.work,
+        }
+    }
+}
+
+/// Makes the held form of a call; it takes none that has no held form.
+impl Server for Held {
+    unsafe fn over(areas: Areas) -> Held {
+        Held::assume(Store::over(areas))
+    }
+
+    fn back(self) -> Areas {
+        self.into_store().back()
+    }
+
+    fn perform(&mut self, call: Call, lent: Lent) -> u64 {
+        call.on_held(self, lent).expect("a call with a held form")
+    }
+
+    fn area(&self, area: Area) -> &[u32] {
+        match area {
+            Area::Stored => self.stored(),
+            Area::Copies => self.copies(),
+            Area::Received => self.received(),
+            Area::Log => self.log(),
+            Area::Counts => self.counts(),
+            Area::Work => self.work(),
         }
     }
 }

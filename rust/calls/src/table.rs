@@ -1,14 +1,14 @@
 //! The table of calls: everything that is said of a call by its name.
 
-use kophdaen::Store;
+use kophdaen::{Held, Store};
 use model::{coded, Model};
 
 use crate::Lent;
 
 /// A line has the variant with its numbers, the name that the bench program gives the call, and the method
-/// that both sides have for it, with what it is lent before the numbers.
+/// that both sides have for it, with what it is lent before the numbers; then `lent` if it has no held form.
 macro_rules! calls {
-    ($( $call:ident $(($($number:ident),+))?, $name:literal, $method:ident $([$lent:ident])?; )*) => {
+    ($( $call:ident $(($($number:ident),+))?, $name:literal, $method:ident $([$lent:ident])? $(, $form:ident)?; )*) => {
         #[derive(Clone, Copy, Debug, PartialEq, Eq)]
         pub enum Call {
             $( $call $(($(calls!(@u32 $number)),+))?, )*
@@ -30,12 +30,27 @@ macro_rules! calls {
                 }
             }
 
+            /// Whether it has a held form.
+            pub fn can_be_held(self) -> bool {
+                match self {
+                    $( Call::$call { .. } => calls!(@has [$($form)?]), )*
+                }
+            }
+
             /// Makes the call on the library; the answer as the C functions code it.
             pub fn on_library(self, store: &mut Store, lent: Lent) -> u64 {
                 let answer = match self {
                     $( Call::$call $(($($number),+))? => store.$method($(lent.$lent,)? $($($number),+)?), )*
                 };
                 answer.code()
+            }
+
+            /// .. in its held form, if it has one.
+            pub fn on_held(self, held: &mut Held, lent: Lent) -> Option<u64> {
+                match self {
+                    $( Call::$call $(($($number),+))? =>
+                        calls!(@held [$($form)?] held.$method($(lent.$lent,)? $($($number),+)?)), )*
+                }
             }
 
             /// .. and on the model.
@@ -47,10 +62,14 @@ macro_rules! calls {
         }
     };
     (@u32 $number:ident) => { u32 };
+    (@has []) => { true };
+    (@has [lent]) => { false };
+    (@held [] $made:expr) => { Some($made.code()) };
+    (@held [lent] $made:expr) => { None };
 }
 
 calls! {
-    Format, "format", format;
+    Format, "format", format, lent;
     Begin(t), "begin", begin;
     Commit(t), "commit", commit;
     Abort(t), "abort", abort;
@@ -65,6 +84,6 @@ calls! {
     EmptyLog, "empty", empty_log;
     StartPass, "pass", start_pass;
     PassStep, "step", pass_step;
-    Reopen, "reopen", reopen;
+    Reopen, "reopen", reopen, lent;
     ReopenStep, "restep", reopen_step;
 }

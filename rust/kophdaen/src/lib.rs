@@ -3,6 +3,9 @@
 //! A [`Store`] owns the six lent areas (docs/LAYOUT.md) and offers every call of document 01 on
 //! them. The library's promises settle the answer and every word for all inputs, so the areas may
 //! be looked at and written at will: no words in them are unsafe to lend.
+//!
+//! A [`Held`] is a store whose areas nothing but its calls can write. Its calls do not look at every
+//! word first, and answer the same.
 //! docs/CALLING.md has the refusals, what to write to the disk and when, and names two complete programs.
 
 /// What a call answered: 0 or a refusal's number, and the value (0 where refused).
@@ -37,5 +40,9 @@ pub fn work_words(pages: usize) -> usize {
     6 + 67 * pages
 }
 
+mod held;
+mod lend;
 mod store;
+pub use held::{Held, NotHeld};
+pub use lend::whole;
 pub use store::Store;

@@ -2,19 +2,23 @@
 //! The model itself is [`Fault::None`].
 
 macro_rules! faults {
-    ($( $name:ident : $what:literal, )*) => {
+    (calls: $( $name:ident : $what:literal, )*; whole: $( $of_whole:ident : $what_of_whole:literal, )*) => {
         #[derive(Clone, Copy, PartialEq, Eq, Debug)]
         pub enum Fault {
             None,
             $( $name, )*
+            $( $of_whole, )*
         }
 
-        /// Every fault with what it does wrong.
+        /// Every fault of the calls with what it does wrong.
         pub const FAULTS: &[(Fault, &str)] = &[ $( (Fault::$name, $what), )* ];
+        /// .. and of `whole`.
+        pub const WHOLE_FAULTS: &[(Fault, &str)] = &[ $( (Fault::$of_whole, $what_of_whole), )* ];
     };
 }
 
 faults! {
+    calls:
     // document 01, Agreement
     FreesNothing: "Agreement: a collector that frees nothing",
     RefusesAllCalls: "Agreement: a server that refuses all calls",
@@ -126,4 +130,15 @@ faults! {
     StepNumberPastBound: "DECISIONS 35: the step number goes on past its bound",
     ReopeningPageStays: "DECISIONS 36: the reopening page stays P after the last step",
     RestepOfNoneIsTwo: "DECISIONS 37: a reopening step with the word 0 answers 2",
+    ; whole:
+    WholeTrustsRoot: "the root is taken for occupied",
+    WholeLooksAtRootAlone: "the root alone is looked at",
+    WholeLooksOneStepFar: "the root's references are looked at, and none behind them",
+    WholeLooksAtUnreached: "objects that the root does not reach are looked at too",
+    WholeOverlooksWordThree: "word 3 is overlooked",
+    WholeFollowsData: "word 4 is followed as a reference",
+    WholeMisreadsLastSlot: "slot 15 is taken for occupied",
+    WholePassesOverAbove: "a reference above 16 x P is passed over",
+    WholeOfBrokenPage: "a length that is not whole pages is taken",
+    WholeOfMorePages: "257 pages are taken",
 }

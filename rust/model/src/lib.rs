@@ -8,11 +8,13 @@ pub mod faults;
 pub mod layout;
 pub mod recover;
 pub mod sound;
+mod whole;
 
 pub use faults::Fault;
 use layout::*;
 use recover::{free_map, recovered, take_effect};
 use sound::in_range;
+pub use whole::whole;
 
 /// The value of an accepted call, or the number of the refusal.
 pub type Answer = Result<u32, u32>;

@@ -43,6 +43,11 @@ impl Generator {
         Generator { random, style, hot, restore: None, burst: (Call::Force, 0), begun: false }
     }
 
+    /// From a store that calls have led to: no first action that makes one.
+    pub fn going_on(self) -> Generator {
+        Generator { begun: true, ..self }
+    }
+
     pub fn next(&mut self, a: &Areas) -> Action {
         if !self.begun {
             self.begun = true;
@@ -441,7 +446,7 @@ pub fn plan(random: &mut Random, scope: Scope) -> (usize, usize, Style, usize) {
 }
 
 /// Pages and records.
-fn size(random: &mut Random, large: bool) -> (usize, usize) {
+pub fn size(random: &mut Random, large: bool) -> (usize, usize) {
     let pages = match random.weighted(&[30, 25, 15, 15, 15]) {
         0 => 1,
         1 => 2,

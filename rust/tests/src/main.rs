@@ -3,6 +3,8 @@
 //!
 //!   compare examples
 //!   compare random [--seed N] [--calls N] [--large]
+//!   compare whole  [--seed N] [--calls N]
+//!   compare open   [--seed N] [--calls N]
 //!   compare power  [--seed N] [--calls N] [--write FILE]
 //!   compare show FAULT [--seed N] [--calls N]
 //!   compare oracle PROGRAM [--seed N] [--calls N] [--large]
@@ -12,12 +14,14 @@
 mod actions;
 mod examples;
 mod generate;
+mod open;
 mod oracle;
 mod power;
 mod random;
 mod rubbish;
 mod run;
 mod sides;
+mod whole;
 
 use std::process::exit;
 use std::time::Instant;
@@ -69,6 +73,8 @@ fn main() {
     let good = match mode.as_str() {
         "examples" => run_examples(),
         "random" => run_random(&options),
+        "whole" => whole::run(options.seed, options.calls),
+        "open" => open::run(options.seed, options.calls),
         "power" => power::run(options.seed, options.calls, options.write.as_deref()),
         "show" => power::show(&options.program.unwrap_or_else(usage), options.seed, options.calls),
         "oracle" => {
@@ -81,7 +87,7 @@ fn main() {
 }
 
 fn usage<T>() -> T {
-    eprintln!("usage: compare examples | random | power | show FAULT | oracle PROGRAM [--seed N] [--calls N] [--large] [--write FILE]");
+    eprintln!("usage: compare examples | random | whole | open | power | show FAULT | oracle PROGRAM [--seed N] [--calls N] [--large] [--write FILE]");
     exit(2)
 }
 
@@ -118,7 +124,7 @@ pub fn random_lists(
         let mut pair = Pair::new(left, right, pages, records);
         let mut list = List { pages, records, actions: Vec::new() };
         while list.actions.len() < length && made < calls {
-            AREAS.iter().for_each(|&area| lead.of_mut(area).clone_from(pair.left.area(area)));
+            AREAS.iter().for_each(|&area| pair.left.area(area).clone_into(lead.of_mut(area)));
             let action = generator.next(&lead);
             let sweeping = lead.work[PHASE] == SWEEPING;
             list.actions.push(action.clone());
@@ -128,6 +134,7 @@ pub fn random_lists(
                 Err(_) => return Some((list, made)),
             }
         }
+        tally.held += pair.held_calls;
     }
     None
 }

@@ -10,7 +10,7 @@ use std::io::Write as _;
 use std::process::{Command, Stdio};
 use std::time::Instant;
 
-use calls::{Call, Lent, Side};
+use calls::{Call, Lent, Server};
 use kophdaen::OBJECT_WORDS;
 use model::layout::*;
 use model::{Fault, Model};

@@ -2,13 +2,13 @@
 
 use std::fmt::Write;
 
-use model::faults::FAULTS;
+use model::faults::{FAULTS, WHOLE_FAULTS};
 use model::Fault;
 
 use crate::generate::Scope;
 use crate::run::{report, Tally};
 use crate::sides::Kind;
-use crate::{examples, random_lists};
+use crate::{examples, random_lists, whole};
 
 /// The side that a fault is held against.
 const UNCHANGED: Kind = Kind::Library;
@@ -19,45 +19,77 @@ fn noticed(fault: Fault, seed: u64, calls: u64, scope: Scope) -> Option<u64> {
     random_lists(UNCHANGED, faulty, seed, calls, scope, &mut Tally::new()).map(|(_, calls)| calls)
 }
 
-/// Prints how the named fault shows: the shrunk list and the least state.
+/// Prints how the named fault shows: the shrunk list and the least state, or the page area.
 pub fn show(name: &str, seed: u64, calls: u64) -> bool {
     std::panic::set_hook(Box::new(|_| {}));
-    let Some(&(fault, what)) = FAULTS.iter().find(|(fault, _)| format!("{fault:?}") == name) else {
+    let Some(&(fault, what)) = FAULTS.iter().chain(WHOLE_FAULTS).find(|(fault, _)| format!("{fault:?}") == name)
+    else {
         println!("no fault is named {name}");
         return false;
     };
     println!("{fault:?}: {what}");
     let faulty = Kind::Model(fault);
-    match random_lists(UNCHANGED, faulty, seed, calls, Scope::Small, &mut Tally::new()) {
-        Some((list, _)) => report(&list, UNCHANGED, faulty),
-        None => println!("not noticed in {calls} calls"),
+    let list = random_lists(UNCHANGED, faulty, seed, calls, Scope::Small, &mut Tally::new());
+    match (list, whole::noticed(fault, seed, calls)) {
+        (Some((list, _)), _) => report(&list, UNCHANGED, faulty),
+        (None, Some((_, area))) => whole::report(&area, fault),
+        (None, None) => println!("not noticed in {calls} calls and page areas"),
     }
     true
 }
 
-pub fn run(seed: u64, calls: u64, write: Option<&str>) -> bool {
-    std::panic::set_hook(Box::new(|_| {})); // a faulty model may panic: that is noticed too
+fn shown(noticed: Option<u64>) -> String {
+    noticed.map_or("no".to_string(), |n| n.to_string())
+}
+
+/// The faults of the calls: the lines of their table, and how many are not noticed.
+fn calls_table(seed: u64, calls: u64) -> (String, usize) {
     let mut table = String::new();
     let mut missed = 0;
     for &(fault, what) in FAULTS {
         let by_example = examples::run(UNCHANGED, Kind::Model(fault)).is_err();
         let by_calls = noticed(fault, seed, calls / 10, Scope::Legal);
         let by_all = noticed(fault, seed, calls, Scope::Small);
-        missed += u32::from(by_all.is_none());
+        missed += usize::from(by_all.is_none());
         let example = if by_example { "yes" } else { "no" };
-        let [legal, all] = [by_calls, by_all].map(|n| n.map_or("no".to_string(), |n| n.to_string()));
+        let [legal, all] = [by_calls, by_all].map(shown);
         println!("{all:>8} {legal:>8} {example:>4}  {fault:?}: {what}");
         writeln!(table, "| `{fault:?}` | {what} | {example} | {legal} | {all} |").unwrap();
     }
-    println!("power: {} faults against {}, {missed} not noticed", FAULTS.len(), UNCHANGED.name());
+    (table, missed)
+}
+
+/// .. and of `whole`.
+fn whole_table(seed: u64, areas: u64) -> (String, usize) {
+    let mut table = String::new();
+    let mut missed = 0;
+    for &(fault, what) in WHOLE_FAULTS {
+        let by_areas = whole::noticed(fault, seed, areas).map(|(n, _)| n);
+        missed += usize::from(by_areas.is_none());
+        let all = shown(by_areas);
+        println!("{all:>8} page areas    {fault:?}: {what}");
+        writeln!(table, "| `{fault:?}` | {what} | {all} |").unwrap();
+    }
+    (table, missed)
+}
+
+pub fn run(seed: u64, calls: u64, write: Option<&str>) -> bool {
+    std::panic::set_hook(Box::new(|_| {})); // a faulty model may panic: that is noticed too
+    let (table, missed) = calls_table(seed, calls);
+    let (whole_table, missed_of_whole) = whole_table(seed, calls / 10);
+    let missed = missed + missed_of_whole;
+    let faults = FAULTS.len() + WHOLE_FAULTS.len();
+    println!("power: {faults} faults against {}, {missed} not noticed", UNCHANGED.name());
     if let Some(path) = write {
         let text = format!(
             include_str!("tests.md"),
             seed = seed,
             faults = FAULTS.len(),
+            whole_faults = WHOLE_FAULTS.len(),
             calls = calls,
             tenth = calls / 10,
-            table = table.trim_end()
+            table = table.trim_end(),
+            whole_table = whole_table.trim_end()
         );
         if let Err(error) = std::fs::write(path, text) {
             println!("{path}: {error}");

@@ -33,11 +33,11 @@ fn noise(areas: &mut Areas, random: &mut Random) {
 }
 
 /// A word where each bit below 16 is set one time in n.
-fn mask(random: &mut Random, n: usize) -> u32 {
+pub fn mask(random: &mut Random, n: usize) -> u32 {
     (0..16).filter(|_| random.below(n) == 0).map(bit).sum()
 }
 
-fn sound_pages(area: &mut [u32], pages: usize, random: &mut Random) {
+pub fn sound_pages(area: &mut [u32], pages: usize, random: &mut Random) {
     let objects = SLOTS * pages;
     let thin = random.between(1, 4);
     for page in 0..pages {

@@ -1,9 +1,10 @@
 //! Runs actions on two sides and compares every answer and every lent word after each; shrinks a
-//! list on which they differ.
+//! list on which they differ. Beside the library's calls their held forms are made.
 
 use std::panic::{catch_unwind, AssertUnwindSafe};
 
 use calls::{Call, Lent, Side, NAMES};
+use kophdaen::{Held, Store};
 use model::layout::*;
 use model::{Fault, Model};
 
@@ -14,6 +15,10 @@ use crate::sides::Kind;
 pub struct Pair {
     pub left: Box<dyn Side>,
     pub right: Box<dyn Side>,
+    /// Where one side is the library: a store of the same words, which takes the held forms.
+    held: Option<Store>,
+    /// How many of those were made.
+    pub held_calls: u64,
     pages: usize,
     records: usize,
 }
@@ -23,13 +28,14 @@ pub struct Pair {
 pub struct Tally {
     pub answers: Vec<[u64; 17]>,
     pub calls: u64,
+    pub held: u64,
     pub cuts: u64,
     pub freed: u64,
 }
 
 impl Tally {
     pub fn new() -> Tally {
-        Tally { answers: vec![[0; 17]; NAMES.len()], calls: 0, cuts: 0, freed: 0 }
+        Tally { answers: vec![[0; 17]; NAMES.len()], calls: 0, held: 0, cuts: 0, freed: 0 }
     }
 
     pub fn note(&mut self, action: &Action, answer: u64, sweeping: bool) {
@@ -56,7 +62,10 @@ impl Tally {
             row[..15].iter().for_each(|n| print!("{n:>8}"));
             println!();
         }
-        println!("{} calls, {} cuts, {} slots freed", self.calls, self.cuts, self.freed);
+        println!(
+            "{} calls, {} of them held too, {} cuts, {} slots freed",
+            self.calls, self.held, self.cuts, self.freed
+        );
     }
 }
 
@@ -66,13 +75,26 @@ fn show(answer: u64) -> String {
 
 impl Pair {
     pub fn new(left: Kind, right: Kind, pages: usize, records: usize) -> Pair {
-        Pair { left: left.make(pages, records), right: right.make(pages, records), pages, records }
+        let held = [left, right].contains(&Kind::Library).then(|| Store::new(pages, records));
+        Pair {
+            left: left.make(pages, records),
+            right: right.make(pages, records),
+            held,
+            held_calls: 0,
+            pages,
+            records,
+        }
+    }
+
+    fn sides(&mut self) -> impl Iterator<Item = &mut (dyn Side + 'static)> + '_ {
+        let held = self.held.as_mut().map(|store| store as &mut dyn Side);
+        [&mut *self.left, &mut *self.right].into_iter().chain(held)
     }
 
     /// What the left side's areas hold.
     pub fn areas(&self) -> Areas {
         let mut areas = Areas::default();
-        AREAS.iter().for_each(|&area| areas.of_mut(area).clone_from(self.left.area(area)));
+        AREAS.iter().for_each(|&area| self.left.area(area).clone_into(areas.of_mut(area)));
         areas
     }
 
@@ -82,12 +104,11 @@ impl Pair {
             Action::Call(request) => self.call(request),
             Action::Resized(area, len, request) => self.resized(*area, *len, request),
             Action::Cut => {
-                self.left.cut();
-                self.right.cut();
+                self.sides().for_each(Side::cut);
                 self.compare().map(|_| 0)
             }
             Action::Poke(area, index, value) => {
-                for side in [&mut self.left, &mut self.right] {
+                for side in self.sides() {
                     if let Some(word) = side.area_mut(*area).get_mut(*index) {
                         *word = *value;
                     }
@@ -102,17 +123,18 @@ impl Pair {
         }
     }
 
-    /// The call, made while an area of both sides has so many words.
+    /// The call, made while an area of every side has so many words.
     fn resized(&mut self, area: Area, len: usize, request: &Request) -> Result<u64, String> {
-        let [left, right] = [&mut self.left, &mut self.right].map(|side| {
+        let cut = |side: &mut (dyn Side + 'static)| {
             let words = side.area_mut(area);
             let tail = words.get(len..).unwrap_or(&[]).to_vec();
             let before = words.len();
             words.resize(len, 0);
             (before, tail)
-        });
+        };
+        let whole: Vec<(usize, Vec<u32>)> = self.sides().map(cut).collect();
         let answer = self.call(request)?;
-        for (side, (before, tail)) in [(&mut self.left, left), (&mut self.right, right)] {
+        for (side, (before, tail)) in self.sides().zip(whole) {
             let words = side.area_mut(area);
             words.extend(tail);
             words.resize(before, 0);
@@ -121,7 +143,7 @@ impl Pair {
     }
 
     pub fn load(&mut self, areas: &Areas) {
-        for side in [&mut self.left, &mut self.right] {
+        for side in self.sides() {
             AREAS.iter().for_each(|&area| side.area_mut(area).clone_from(areas.of(area)));
         }
     }
@@ -129,7 +151,7 @@ impl Pair {
     fn call(&mut self, request: &Request) -> Result<u64, String> {
         let image = request.image(self.left.area(Area::Received), self.left.area(Area::Copies));
         let buffer: Vec<u32> = (0..request.buffer() as u32).map(|i| 0xb0f0 << 16 | i).collect();
-        let mut buffers = [buffer.clone(), buffer];
+        let mut buffers = [buffer.clone(), buffer.clone()];
         let [left_buffer, right_buffer] = &mut buffers;
         let right = catch_unwind(AssertUnwindSafe(|| {
             self.right.perform(request.call, Lent { buffer: right_buffer, image: &image })
@@ -142,12 +164,46 @@ impl Pair {
         if buffers[0] != buffers[1] {
             return Err(format!("buffers {:?} and {:?}", buffers[0], buffers[1]));
         }
+        self.held_call(request.call, &image, buffer, (left, &buffers[0]))?;
         self.compare().map(|_| left)
     }
 
+    /// The held form of a call, held to the answer and the buffer that the call gave. Where the sides agree on
+    /// refusal 1 there is none: the store may not be well formed.
+    fn held_call(
+        &mut self,
+        call: Call,
+        image: &[u32],
+        mut buffer: Vec<u32>,
+        (answer, read): (u64, &[u32]),
+    ) -> Result<(), String> {
+        let Some(store) = self.held.take_if(|_| answer >> 32 != 1) else { return Ok(()) };
+        // SAFETY: well formed, since both sides have found it so.
+        let mut held = unsafe { Held::assume(store) };
+        let made = call.on_held(&mut held, Lent { buffer: &mut buffer, image });
+        self.held_calls += u64::from(made.is_some());
+        let store = self.held.insert(held.into_store());
+        let made = made.unwrap_or_else(|| call.on_library(store, Lent { buffer: &mut buffer, image }));
+        if made != answer || buffer != read {
+            return Err(format!(
+                "held: answer {} and buffer {buffer:?}, not {} and {read:?}",
+                show(made),
+                show(answer)
+            ));
+        }
+        Ok(())
+    }
+
+    /// Whether every side has the left one's words.
     fn compare(&self) -> Result<(), String> {
+        self.compare_with(&*self.right)?;
+        let held = self.held.as_ref().map_or(Ok(()), |store| self.compare_with(store));
+        held.map_err(|what| format!("held: {what}"))
+    }
+
+    fn compare_with(&self, other: &dyn Side) -> Result<(), String> {
         for area in AREAS {
-            let (left, right) = (self.left.area(area), self.right.area(area));
+            let (left, right) = (self.left.area(area), other.area(area));
             if left == right {
                 continue;
             }

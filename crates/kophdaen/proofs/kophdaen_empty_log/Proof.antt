@@ -1,12 +1,10 @@
 use borrow.Author.Needs.{needs}
-use mathlib.Core.Path.{ap, _∙_}
-use Rattle.areas.specs.Areas.{Out}
-use Rattle.kophdaen.specs.Codes.{coded}
+use Rattle.codes.specs.Codes.{told}
 use Rattle.kophdaen.proofs.kophdaen_empty_log.Statement.{statement}
 use Rattle.kophdaen.proofs.kophdaen_empty_log.Tie as tie
 
 returns : tie.Need-returns
-returns c = let e = c .before .before .before .empty-log .ensures in (c .code .ensures ∙ ap (λ (o : Out). coded (o .answer)) e, ap (λ (o : Out). o .after) e)
+returns c = told _ _ _ _ (c .code .ensures) (c .before .before .before .empty-log .ensures)
 
 pub kophdaen-empty-log-spec : {M : Type 1} → statement M
 kophdaen-empty-log-spec = tie.close (tie.spec (λ c κs. search needs) (λ c κs. search needs) (λ c. search needs) returns)

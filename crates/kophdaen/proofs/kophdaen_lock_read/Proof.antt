@@ -1,12 +1,10 @@
 use borrow.Author.Needs.{needs}
-use mathlib.Core.Path.{ap, _∙_}
-use Rattle.areas.specs.Areas.{Out}
-use Rattle.kophdaen.specs.Codes.{coded}
+use Rattle.codes.specs.Codes.{told}
 use Rattle.kophdaen.proofs.kophdaen_lock_read.Statement.{statement}
 use Rattle.kophdaen.proofs.kophdaen_lock_read.Tie as tie
 
 returns : tie.Need-returns
-returns c = let e = c .before .before .before .lock-read .ensures in (c .code .ensures ∙ ap (λ (o : Out). coded (o .answer)) e, ap (λ (o : Out). o .after) e)
+returns c = told _ _ _ _ (c .code .ensures) (c .before .before .before .lock-read .ensures)
 
 pub kophdaen-lock-read-spec : {M : Type 1} → statement M
 kophdaen-lock-read-spec = tie.close (tie.spec (λ c κs. search needs) (λ c κs. search needs) (λ c. search needs) returns)

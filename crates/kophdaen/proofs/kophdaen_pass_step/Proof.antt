@@ -1,12 +1,10 @@
 use borrow.Author.Needs.{needs}
-use mathlib.Core.Path.{ap, _∙_}
-use Rattle.areas.specs.Areas.{Out}
-use Rattle.kophdaen.specs.Codes.{coded}
+use Rattle.codes.specs.Codes.{told}
 use Rattle.kophdaen.proofs.kophdaen_pass_step.Statement.{statement}
 use Rattle.kophdaen.proofs.kophdaen_pass_step.Tie as tie
 
 returns : tie.Need-returns
-returns c = let e = c .before .before .before .before .before .before .before .before .before .before .before .pass-step .ensures in (c .code .ensures ∙ ap (λ (o : Out). coded (o .answer)) e, ap (λ (o : Out). o .after) e)
+returns c = told _ _ _ _ (c .code .ensures) (c .before .before .before .before .before .before .before .before .before .before .before .pass-step .ensures)
 
 pub kophdaen-pass-step-spec : {M : Type 1} → statement M
 kophdaen-pass-step-spec =

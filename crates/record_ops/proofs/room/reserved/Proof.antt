@@ -5,29 +5,31 @@ use native.Mathlib.Omega.{arith}
 use borrow.Author.Needs.{needs}
 use Rattle.records.specs.Records.{maxRecords, txnCount}
 use Rattle.records.specs.Changes.{reserveOf, reserved}
-use Rattle.record_ops.specs.Reserves.{shares-le, reserved-next}
+use Rattle.record_ops.specs.Reserves.{reserved-next}
 use Rattle.words.specs.Tests as tests
 use Rattle.record_ops.proofs.room.reserved.Statement.{statement}
 use Rattle.record_ops.proofs.room.reserved.Tie as tie
 
 abbrev Inv-loop : tie.InvT-loop
-Inv-loop log c active shares sum₀ t₀ sum t = (t ≤ txnCount) × (sum ≤ (maxRecords + 1) * t) × ((w : List ℕ) → sum ≡ tests.sum (reserveOf w log c active) t)
+Inv-loop log c active walk sum₀ t₀ sum t = (t ≤ txnCount) × (sum ≤ (maxRecords + 1) * t) × ((w : List ℕ) → sum ≡ tests.sum (reserveOf w log c active) t)
 
 abbrev μ-loop : tie.MeasureT-loop
-μ-loop log c active shares sum₀ t₀ sum t = txnCount - t
+μ-loop log c active walk sum₀ t₀ sum t = txnCount - t
 
 loop-holds : tie.Need-loop-holds Inv-loop μ-loop
 unfolding tests.sum
 loop-holds c = (omega arith, omega arith, λ w. refl)
 
 reserve-of-requires : tie.Need-reserve-of-requires Inv-loop μ-loop
-reserve-of-requires c κs = let h = shares-le _ _ _ _ (c .before .before .reserves .ensures) (c .loop-test .taken) in omega arith
+reserve-of-requires c κs = let f = c .before .before .before .walk-down .ensures .each _ (c .before .loop-test .taken) .few in omega arith
 
 add-sum : tie.Need-add-sum Inv-loop μ-loop
 add-sum c = omega (arith, c .reserve-of .ensures .1)
 
 loop-again : tie.Need-loop-again Inv-loop μ-loop
-loop-again c = (omega arith, omega (arith, c .reserve-of .ensures .1), λ w. reserved-next w _ _ _ _ (c .before .before .before .reserves .ensures) (c .before .loop-test .taken) _ _ _ (c .before .before .loop .inv .2 w) (c .reserve-of .ensures .0))
+loop-again c =
+    let l = c .before .before .before in
+    (omega arith, omega (arith, c .reserve-of .ensures .1), λ w. reserved-next w _ _ _ _ _ _ _ _ (l .before .walk-down .ensures .each _ (c .before .before .loop-test .taken)) (l .loop .inv .2 w) (c .reserve-of .ensures .0))
 
 returns : tie.Need-returns Inv-loop μ-loop
 unfolding reserved

@@ -1,0 +1,2 @@
+-- What the C functions answer.
+pub mod Codes

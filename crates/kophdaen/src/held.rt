@@ -1,0 +1,308 @@
+// The calls as C functions on a store that is known to be well formed: refusal 1 is not looked for. Each ensures what its namesake
+// without `held_` ensures.
+ghost use mathlib.Core.Path.{_≡_};
+ghost use mathlib.Core.Bool.{true};
+ghost use lib.ListN.{length};
+ghost use lib.Dec.{eqb};
+ghost use Rattle.pages.specs.Geometry.{pageWords, slotWords};
+ghost use Rattle.areas.specs.Areas.{areas};
+ghost use Rattle.areas.specs.Entry.{wellFormed};
+ghost use Rattle.calls.specs.Transactions.{callBegin, callCommit, callAbort};
+ghost use Rattle.calls.specs.Locks.{callLockRead, callLockWrite};
+ghost use Rattle.calls.specs.Objects.{callRead, callCreate, callSet, callFlush, bufferAfter};
+ghost use Rattle.calls.specs.Stability.{callForce, callStore, callEmpty};
+ghost use Rattle.calls.specs.Pass.{callPass, callStep};
+ghost use Rattle.calls.specs.Reopening.{callRestep};
+ghost use Rattle.codes.specs.Codes.{coded};
+use codes::code;
+
+// Begins transaction t.
+#[no_mangle]
+pub extern "C" fn kophdaen_held_begin(
+    stored: &[u32],
+    copies: &[u32],
+    received: &mut [u32],
+    log: &mut [u32],
+    counts: &mut [u32],
+    work: &mut [u32],
+    t: u32,
+) -> u64
+    requires { ⌜ wellFormed true (areas (now stored) (now copies) (now received) (now log) (now counts) (now work)) ≡ true ⌝ }
+    ensures { λ r. ⌜ r ≡ coded (callBegin (areas (now (stored .entry)) (now (copies .entry)) (now (received .entry)) (now (log .entry)) (now (counts .entry)) (now (work .entry))) t .answer) ⌝ }
+    ensures { λ _. ⌜ areas (now (stored .exit)) (now (copies .exit)) (now (received .exit)) (now (log .exit)) (now (counts .exit)) (now (work .exit)) ≡ callBegin (areas (now (stored .entry)) (now (copies .entry)) (now (received .entry)) (now (log .entry)) (now (counts .entry)) (now (work .entry))) t .after ⌝ }
+{
+    let a = transaction_calls::held_begin(stored, copies, received, log, counts, work, t);
+    code(a)
+}
+
+// Commits transaction t.
+#[no_mangle]
+pub extern "C" fn kophdaen_held_commit(
+    stored: &[u32],
+    copies: &[u32],
+    received: &mut [u32],
+    log: &mut [u32],
+    counts: &mut [u32],
+    work: &mut [u32],
+    t: u32,
+) -> u64
+    requires { ⌜ wellFormed true (areas (now stored) (now copies) (now received) (now log) (now counts) (now work)) ≡ true ⌝ }
+    ensures { λ r. ⌜ r ≡ coded (callCommit (areas (now (stored .entry)) (now (copies .entry)) (now (received .entry)) (now (log .entry)) (now (counts .entry)) (now (work .entry))) t .answer) ⌝ }
+    ensures { λ _. ⌜ areas (now (stored .exit)) (now (copies .exit)) (now (received .exit)) (now (log .exit)) (now (counts .exit)) (now (work .exit)) ≡ callCommit (areas (now (stored .entry)) (now (copies .entry)) (now (received .entry)) (now (log .entry)) (now (counts .entry)) (now (work .entry))) t .after ⌝ }
+{
+    let a = transaction_calls::held_commit(stored, copies, received, log, counts, work, t);
+    code(a)
+}
+
+// Aborts transaction t.
+#[no_mangle]
+pub extern "C" fn kophdaen_held_abort(
+    stored: &[u32],
+    copies: &mut [u32],
+    received: &mut [u32],
+    log: &mut [u32],
+    counts: &mut [u32],
+    work: &mut [u32],
+    t: u32,
+) -> u64
+    requires { ⌜ wellFormed true (areas (now stored) (now copies) (now received) (now log) (now counts) (now work)) ≡ true ⌝ }
+    ensures { λ r. ⌜ r ≡ coded (callAbort (areas (now (stored .entry)) (now (copies .entry)) (now (received .entry)) (now (log .entry)) (now (counts .entry)) (now (work .entry))) t .answer) ⌝ }
+    ensures { λ _. ⌜ areas (now (stored .exit)) (now (copies .exit)) (now (received .exit)) (now (log .exit)) (now (counts .exit)) (now (work .exit)) ≡ callAbort (areas (now (stored .entry)) (now (copies .entry)) (now (received .entry)) (now (log .entry)) (now (counts .entry)) (now (work .entry))) t .after ⌝ }
+{
+    let a = transaction_calls::held_abort(stored, copies, received, log, counts, work, t);
+    code(a)
+}
+
+// Locks page p for reading.
+#[no_mangle]
+pub extern "C" fn kophdaen_held_lock_read(
+    stored: &[u32],
+    copies: &[u32],
+    received: &[u32],
+    log: &[u32],
+    counts: &[u32],
+    work: &mut [u32],
+    t: u32,
+    p: u32,
+) -> u64
+    requires { ⌜ wellFormed true (areas (now stored) (now copies) (now received) (now log) (now counts) (now work)) ≡ true ⌝ }
+    ensures { λ r. ⌜ r ≡ coded (callLockRead (areas (now (stored .entry)) (now (copies .entry)) (now (received .entry)) (now (log .entry)) (now (counts .entry)) (now (work .entry))) t p .answer) ⌝ }
+    ensures { λ _. ⌜ areas (now (stored .exit)) (now (copies .exit)) (now (received .exit)) (now (log .exit)) (now (counts .exit)) (now (work .exit)) ≡ callLockRead (areas (now (stored .entry)) (now (copies .entry)) (now (received .entry)) (now (log .entry)) (now (counts .entry)) (now (work .entry))) t p .after ⌝ }
+{
+    let a = lock_calls::held_lock_read(stored, copies, received, log, counts, work, t, p);
+    code(a)
+}
+
+// Locks page p for writing.
+#[no_mangle]
+pub extern "C" fn kophdaen_held_lock_write(
+    stored: &[u32],
+    copies: &[u32],
+    received: &[u32],
+    log: &[u32],
+    counts: &[u32],
+    work: &mut [u32],
+    t: u32,
+    p: u32,
+) -> u64
+    requires { ⌜ wellFormed true (areas (now stored) (now copies) (now received) (now log) (now counts) (now work)) ≡ true ⌝ }
+    ensures { λ r. ⌜ r ≡ coded (callLockWrite (areas (now (stored .entry)) (now (copies .entry)) (now (received .entry)) (now (log .entry)) (now (counts .entry)) (now (work .entry))) t p .answer) ⌝ }
+    ensures { λ _. ⌜ areas (now (stored .exit)) (now (copies .exit)) (now (received .exit)) (now (log .exit)) (now (counts .exit)) (now (work .exit)) ≡ callLockWrite (areas (now (stored .entry)) (now (copies .entry)) (now (received .entry)) (now (log .entry)) (now (counts .entry)) (now (work .entry))) t p .after ⌝ }
+{
+    let a = lock_calls::held_lock_write(stored, copies, received, log, counts, work, t, p);
+    code(a)
+}
+
+// Puts object o's eight words into the buffer.
+#[no_mangle]
+pub extern "C" fn kophdaen_held_read(
+    stored: &[u32],
+    copies: &[u32],
+    received: &[u32],
+    log: &[u32],
+    counts: &[u32],
+    work: &mut [u32],
+    buffer: &mut [u32],
+    t: u32,
+    o: u32,
+) -> u64
+    requires { ⌜ wellFormed (eqb (length (now buffer)) slotWords) (areas (now stored) (now copies) (now received) (now log) (now counts) (now work)) ≡ true ⌝ }
+    ensures { λ r. ⌜ r ≡ coded (callRead (areas (now (stored .entry)) (now (copies .entry)) (now (received .entry)) (now (log .entry)) (now (counts .entry)) (now (work .entry))) t o (now (buffer .entry)) .answer) ⌝ }
+    ensures { λ _. ⌜ areas (now (stored .exit)) (now (copies .exit)) (now (received .exit)) (now (log .exit)) (now (counts .exit)) (now (work .exit)) ≡ callRead (areas (now (stored .entry)) (now (copies .entry)) (now (received .entry)) (now (log .entry)) (now (counts .entry)) (now (work .entry))) t o (now (buffer .entry)) .after ⌝ }
+    ensures { λ _. ⌜ now (buffer .exit) ≡ bufferAfter (areas (now (stored .entry)) (now (copies .entry)) (now (received .entry)) (now (log .entry)) (now (counts .entry)) (now (work .entry))) t o (now (buffer .entry)) ⌝ }
+{
+    let a = object_calls::held_read(stored, copies, received, log, counts, work, buffer, t, o);
+    code(a)
+}
+
+// Creates object o.
+#[no_mangle]
+pub extern "C" fn kophdaen_held_create(
+    stored: &[u32],
+    copies: &[u32],
+    received: &mut [u32],
+    log: &mut [u32],
+    counts: &mut [u32],
+    work: &mut [u32],
+    t: u32,
+    o: u32,
+) -> u64
+    requires { ⌜ wellFormed true (areas (now stored) (now copies) (now received) (now log) (now counts) (now work)) ≡ true ⌝ }
+    ensures { λ r. ⌜ r ≡ coded (callCreate (areas (now (stored .entry)) (now (copies .entry)) (now (received .entry)) (now (log .entry)) (now (counts .entry)) (now (work .entry))) t o .answer) ⌝ }
+    ensures { λ _. ⌜ areas (now (stored .exit)) (now (copies .exit)) (now (received .exit)) (now (log .exit)) (now (counts .exit)) (now (work .exit)) ≡ callCreate (areas (now (stored .entry)) (now (copies .entry)) (now (received .entry)) (now (log .entry)) (now (counts .entry)) (now (work .entry))) t o .after ⌝ }
+{
+    let a = object_calls::held_create(stored, copies, received, log, counts, work, t, o);
+    code(a)
+}
+
+// Sets word f of object o to v.
+#[no_mangle]
+pub extern "C" fn kophdaen_held_set_word(
+    stored: &[u32],
+    copies: &[u32],
+    received: &mut [u32],
+    log: &mut [u32],
+    counts: &mut [u32],
+    work: &mut [u32],
+    t: u32,
+    o: u32,
+    f: u32,
+    v: u32,
+) -> u64
+    requires { ⌜ wellFormed true (areas (now stored) (now copies) (now received) (now log) (now counts) (now work)) ≡ true ⌝ }
+    ensures { λ r. ⌜ r ≡ coded (callSet (areas (now (stored .entry)) (now (copies .entry)) (now (received .entry)) (now (log .entry)) (now (counts .entry)) (now (work .entry))) t o f v .answer) ⌝ }
+    ensures { λ _. ⌜ areas (now (stored .exit)) (now (copies .exit)) (now (received .exit)) (now (log .exit)) (now (counts .exit)) (now (work .exit)) ≡ callSet (areas (now (stored .entry)) (now (copies .entry)) (now (received .entry)) (now (log .entry)) (now (counts .entry)) (now (work .entry))) t o f v .after ⌝ }
+{
+    let a = object_calls::held_set_word(stored, copies, received, log, counts, work, t, o, f, v);
+    code(a)
+}
+
+// Flushes page p with its image.
+#[no_mangle]
+pub extern "C" fn kophdaen_held_flush(
+    stored: &[u32],
+    copies: &mut [u32],
+    received: &[u32],
+    log: &[u32],
+    counts: &[u32],
+    work: &mut [u32],
+    image: &[u32],
+    t: u32,
+    p: u32,
+) -> u64
+    requires { ⌜ wellFormed (eqb (length (now image)) pageWords) (areas (now stored) (now copies) (now received) (now log) (now counts) (now work)) ≡ true ⌝ }
+    ensures { λ r. ⌜ r ≡ coded (callFlush (areas (now (stored .entry)) (now (copies .entry)) (now (received .entry)) (now (log .entry)) (now (counts .entry)) (now (work .entry))) t p (now (image .entry)) .answer) ⌝ }
+    ensures { λ _. ⌜ areas (now (stored .exit)) (now (copies .exit)) (now (received .exit)) (now (log .exit)) (now (counts .exit)) (now (work .exit)) ≡ callFlush (areas (now (stored .entry)) (now (copies .entry)) (now (received .entry)) (now (log .entry)) (now (counts .entry)) (now (work .entry))) t p (now (image .entry)) .after ⌝ }
+{
+    let a = object_calls::held_flush(stored, copies, received, log, counts, work, t, p, image);
+    code(a)
+}
+
+// Makes one more record stable.
+#[no_mangle]
+pub extern "C" fn kophdaen_held_force(
+    stored: &[u32],
+    copies: &[u32],
+    received: &[u32],
+    log: &[u32],
+    counts: &mut [u32],
+    work: &[u32],
+) -> u64
+    requires { ⌜ wellFormed true (areas (now stored) (now copies) (now received) (now log) (now counts) (now work)) ≡ true ⌝ }
+    ensures { λ r. ⌜ r ≡ coded (callForce (areas (now (stored .entry)) (now (copies .entry)) (now (received .entry)) (now (log .entry)) (now (counts .entry)) (now (work .entry))) .answer) ⌝ }
+    ensures { λ _. ⌜ areas (now (stored .exit)) (now (copies .exit)) (now (received .exit)) (now (log .exit)) (now (counts .exit)) (now (work .exit)) ≡ callForce (areas (now (stored .entry)) (now (copies .entry)) (now (received .entry)) (now (log .entry)) (now (counts .entry)) (now (work .entry))) .after ⌝ }
+{
+    let a = stability_calls::held_force(stored, copies, received, log, counts, work);
+    code(a)
+}
+
+// Writes the copy of page p to the stored pages.
+#[no_mangle]
+pub extern "C" fn kophdaen_held_store_page(
+    stored: &mut [u32],
+    copies: &[u32],
+    received: &[u32],
+    log: &[u32],
+    counts: &[u32],
+    work: &[u32],
+    p: u32,
+) -> u64
+    requires { ⌜ wellFormed true (areas (now stored) (now copies) (now received) (now log) (now counts) (now work)) ≡ true ⌝ }
+    ensures { λ r. ⌜ r ≡ coded (callStore (areas (now (stored .entry)) (now (copies .entry)) (now (received .entry)) (now (log .entry)) (now (counts .entry)) (now (work .entry))) p .answer) ⌝ }
+    ensures { λ _. ⌜ areas (now (stored .exit)) (now (copies .exit)) (now (received .exit)) (now (log .exit)) (now (counts .exit)) (now (work .exit)) ≡ callStore (areas (now (stored .entry)) (now (copies .entry)) (now (received .entry)) (now (log .entry)) (now (counts .entry)) (now (work .entry))) p .after ⌝ }
+{
+    let a = stability_calls::held_store_page(stored, copies, received, log, counts, work, p);
+    code(a)
+}
+
+// Empties the log.
+#[no_mangle]
+pub extern "C" fn kophdaen_held_empty_log(
+    stored: &[u32],
+    copies: &[u32],
+    received: &[u32],
+    log: &[u32],
+    counts: &mut [u32],
+    work: &[u32],
+) -> u64
+    requires { ⌜ wellFormed true (areas (now stored) (now copies) (now received) (now log) (now counts) (now work)) ≡ true ⌝ }
+    ensures { λ r. ⌜ r ≡ coded (callEmpty (areas (now (stored .entry)) (now (copies .entry)) (now (received .entry)) (now (log .entry)) (now (counts .entry)) (now (work .entry))) .answer) ⌝ }
+    ensures { λ _. ⌜ areas (now (stored .exit)) (now (copies .exit)) (now (received .exit)) (now (log .exit)) (now (counts .exit)) (now (work .exit)) ≡ callEmpty (areas (now (stored .entry)) (now (copies .entry)) (now (received .entry)) (now (log .entry)) (now (counts .entry)) (now (work .entry))) .after ⌝ }
+{
+    let a = stability_calls::held_empty_log(stored, copies, received, log, counts, work);
+    code(a)
+}
+
+// Starts a pass.
+#[no_mangle]
+pub extern "C" fn kophdaen_held_start_pass(
+    stored: &[u32],
+    copies: &[u32],
+    received: &[u32],
+    log: &[u32],
+    counts: &[u32],
+    work: &mut [u32],
+) -> u64
+    requires { ⌜ wellFormed true (areas (now stored) (now copies) (now received) (now log) (now counts) (now work)) ≡ true ⌝ }
+    ensures { λ r. ⌜ r ≡ coded (callPass (areas (now (stored .entry)) (now (copies .entry)) (now (received .entry)) (now (log .entry)) (now (counts .entry)) (now (work .entry))) .answer) ⌝ }
+    ensures { λ _. ⌜ areas (now (stored .exit)) (now (copies .exit)) (now (received .exit)) (now (log .exit)) (now (counts .exit)) (now (work .exit)) ≡ callPass (areas (now (stored .entry)) (now (copies .entry)) (now (received .entry)) (now (log .entry)) (now (counts .entry)) (now (work .entry))) .after ⌝ }
+{
+    let a = pass_calls::held_start_pass(stored, copies, received, log, counts, work);
+    code(a)
+}
+
+// One step of a pass.
+#[no_mangle]
+pub extern "C" fn kophdaen_held_pass_step(
+    stored: &[u32],
+    copies: &mut [u32],
+    received: &mut [u32],
+    log: &mut [u32],
+    counts: &mut [u32],
+    work: &mut [u32],
+) -> u64
+    requires { ⌜ wellFormed true (areas (now stored) (now copies) (now received) (now log) (now counts) (now work)) ≡ true ⌝ }
+    ensures { λ r. ⌜ r ≡ coded (callStep (areas (now (stored .entry)) (now (copies .entry)) (now (received .entry)) (now (log .entry)) (now (counts .entry)) (now (work .entry))) .answer) ⌝ }
+    ensures { λ _. ⌜ areas (now (stored .exit)) (now (copies .exit)) (now (received .exit)) (now (log .exit)) (now (counts .exit)) (now (work .exit)) ≡ callStep (areas (now (stored .entry)) (now (copies .entry)) (now (received .entry)) (now (log .entry)) (now (counts .entry)) (now (work .entry))) .after ⌝ }
+{
+    let a = pass_calls::held_pass_step(stored, copies, received, log, counts, work);
+    code(a)
+}
+
+// One step of a reopening.
+#[no_mangle]
+pub extern "C" fn kophdaen_held_reopen_step(
+    stored: &mut [u32],
+    copies: &[u32],
+    received: &[u32],
+    log: &[u32],
+    counts: &mut [u32],
+    work: &mut [u32],
+) -> u64
+    requires { ⌜ wellFormed true (areas (now stored) (now copies) (now received) (now log) (now counts) (now work)) ≡ true ⌝ }
+    ensures { λ r. ⌜ r ≡ coded (callRestep (areas (now (stored .entry)) (now (copies .entry)) (now (received .entry)) (now (log .entry)) (now (counts .entry)) (now (work .entry))) .answer) ⌝ }
+    ensures { λ _. ⌜ areas (now (stored .exit)) (now (copies .exit)) (now (received .exit)) (now (log .exit)) (now (counts .exit)) (now (work .exit)) ≡ callRestep (areas (now (stored .entry)) (now (copies .entry)) (now (received .entry)) (now (log .entry)) (now (counts .entry)) (now (work .entry))) .after ⌝ }
+{
+    let a = reopening_calls::held_restep(stored, copies, received, log, counts, work);
+    code(a)
+}

@@ -1,0 +1,2 @@
+-- What a page area reaches from the root.
+pub mod Reaching

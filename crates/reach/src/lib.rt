@@ -1,0 +1,1 @@
+// What a page area reaches from the root. The definitions stand in specs/.

@@ -1,0 +1,8 @@
+-- Laws of the walk, and that its answer is settled.
+pub mod Counts
+pub mod Range
+pub mod Entering
+pub mod Following
+pub mod Outcomes
+pub mod End
+pub mod Settled
