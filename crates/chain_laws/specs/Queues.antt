@@ -20,7 +20,7 @@ last-linked [] x = refl
 last-linked (u ∷ []) x = refl
 last-linked (u ∷ v ∷ c) x = last-linked (v ∷ c) x
 
-found-append : (q r : List (List ℕ)) (x : ℕ) → found (q ++ r) x ≡ found q x || found r x
+pub found-append : (q r : List (List ℕ)) (x : ℕ) → found (q ++ r) x ≡ found q x || found r x
 unfolding found
 found-append [] r x = refl
 found-append (c ∷ q) r x = by-bool (eqb (lastOf c) x) (λ e. rw e) (λ e. rw e (found-append q r x))

@@ -202,7 +202,7 @@ rest-queue a n h q v l = record {
 }
 
 -- at first
-found-root : (x : ℕ) → found ((root ∷ []) ∷ []) x ≡ eqb root x
+pub found-root : (x : ℕ) → found ((root ∷ []) ∷ []) x ≡ eqb root x
 unfolding found lastOf
 found-root x = or-false (eqb root x)
 
