@@ -21,7 +21,7 @@ use Rattle.reach.specs.Search.{lastOf, found, searched, chainTo, chainIn}
 use Rattle.chain_laws.specs.Order.{UpTo, up-linked, up-trans}
 use Rattle.chain_laws.specs.Queues.{found-leads, leads-found}
 use Rattle.chain_laws.specs.Links.{Within}
-use Rattle.chain_laws.specs.Searching.{Covers, Queue, last-root, chain-some, searched-queue}
+use Rattle.chain_laws.specs.Searching.{Covers, Queue, last-root, searched-queue}
 
 -- the chain that a queue gives for o stands at the first place that leads there
 pub record FirstTo (q : List (List ℕ)) (o j : ℕ) : Type 0 where

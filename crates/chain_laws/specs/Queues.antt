@@ -1,5 +1,5 @@
 -- A queue of chains: whom its chains lead to, and the queue behind which come the links of one chain. Assumes nothing.
-use Prim.Native.Nat.{ℕ, zero, suc, _+_, _<_, _≤_}
+use Prim.Native.Nat.{ℕ, zero, suc, _+_, _-_, _<_, _≤_}
 use native.Mathlib.Omega.{arith}
 use mathlib.Core.Path.{_≡_, refl, sym, ap, _∙_, subst}
 use mathlib.Core.Bool.{Bool, true, false, _||_}
@@ -7,12 +7,12 @@ use mathlib.Core.Logic.{inl, inr}
 use mathlib.Core.List.{List, [], _∷_, _++_}
 use lib.ListN.{length, getD, length-append, List·getD-append}
 use lib.Seq.{getD-append-add}
-use lib.Dec.{eqb}
-use borrow.Author.Tests.{eqb-true, eq-eqb}
-use Rattle.words.specs.Tests.{count, by-bool, clash, or-cases, or-l, or-r, or-false, or-true, count-same}
+use lib.Dec.{eqb, ltb}
+use borrow.Author.Tests.{eqb-true, eq-eqb, ltb-true, ltb-false}
+use Rattle.words.specs.Tests.{count, by-bool, clash, or-cases, or-l, or-r, count-same}
 use Rattle.words.specs.Counts.{count-either}
 use Rattle.reach.specs.Search.{lastOf, found, passing, extended}
-use Rattle.chain_laws.specs.Passing.{Passes, Stands, passing-length, passing-passes, passing-stands}
+use Rattle.chain_laws.specs.Passing.{passing-length, passing-passes, passing-stands}
 
 pub last-linked : (c : List ℕ) (x : ℕ) → lastOf (c ++ (x ∷ [])) ≡ x
 unfolding lastOf
@@ -67,6 +67,16 @@ module _ (q : List (List ℕ)) (c l : List ℕ) where
 
   pub grown-new : (i : ℕ) → i < length l → getD (q ++ extended c l) (length q + i) [] ≡ c ++ (getD l i 0 ∷ [])
   grown-new i h = getD-append-add q (extended c l) i [] ∙ extended-at c l i h
+
+-- a place of that queue is an old one, or one of the links
+pub data Place (q : List (List ℕ)) (l : List ℕ) : ℕ → Type 0 where
+  old : (i : ℕ) → i < length q → Place q l i
+  more : (k : ℕ) → k < length l → Place q l (length q + k)
+
+pub grown-place : (q : List (List ℕ)) (c l : List ℕ) (i : ℕ) → i < length (q ++ extended c l) → Place q l i
+grown-place q c l i h = by-bool (ltb i (length q))
+    (λ t. old i (ltb-true i (length q) t))
+    (λ t. let b = ltb-false i (length q) t in let e = grown-length q c l in let z : length q + (i - length q) ≡ i = omega arith in subst (Place q l) z (more (i - length q) (omega arith)))
 
 -- .. where the links go to the objects that pass a test
 module _ (q : List (List ℕ)) (c : List ℕ) (f : ℕ → Bool) (m : ℕ) where

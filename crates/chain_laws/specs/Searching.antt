@@ -15,8 +15,8 @@ use Rattle.reach.specs.Reaching.{Refers, refersTo}
 use Rattle.reach.specs.Chains.{Chain, Ahead, link}
 use Rattle.reach.specs.Search.{lastOf, found, passing, extended, followed, searched}
 use Rattle.chain_laws.specs.Order.{UpTo, ahead-trans, link-length, ahead-longer, ahead-linked, ahead-lower}
-use Rattle.chain_laws.specs.Passing.{Passes, Stands, passing-passes, passing-stands, passing-ascends}
-use Rattle.chain_laws.specs.Queues.{Leads, last-linked, found-leads, leads-found, grown-length, grown-old, grown-new, grown-size}
+use Rattle.chain_laws.specs.Passing.{passing-passes, passing-stands, passing-ascends}
+use Rattle.chain_laws.specs.Queues.{Place, old, more, grown-place, last-linked, found-leads, leads-found, grown-length, grown-old, grown-new, grown-size}
 use Rattle.chain_laws.specs.Links.{Names, refers-names, refers-told, Object, Within}
 use Rattle.reach.specs.Chains as chains
 
@@ -68,25 +68,11 @@ module _ (a : List ℕ) (n h : ℕ) (q : List (List ℕ)) (v : Queue a n h q) (w
   abbrev after : List (List ℕ)
   after = q ++ extended (getD q h []) (passing (finds a q (getD q h [])) (objectCount n))
 
-  -- a place of the new queue is an old one, or one of the links
-  data Place : ℕ → Type 0 where
-    old : (i : ℕ) → i < length q → Place i
-    more : (k : ℕ) → k < length (passing (finds a q (getD q h [])) (objectCount n)) → Place (length q + k)
-
-  place : (i : ℕ) → i < length after → Place i
-  place i l = by-bool (ltb i (length q))
-      (λ t. old i (ltb-true i (length q) t))
-      (λ t. let b = ltb-false i (length q) t in let e = grown-length q (getD q h []) new in let z : length q + (i - length q) ≡ i = omega arith in
-      subst Place z (more (i - length q) (omega arith)))
-
   at-old : (i : ℕ) → i < length q → getD after i [] ≡ getD q i []
   at-old i l = grown-old q (getD q h []) new i l
 
   at-new : (k : ℕ) → k < length new → getD after (length q + k) [] ≡ getD q h [] ++ (getD new k 0 ∷ [])
   at-new k l = grown-new q (getD q h []) new k l
-
-  leads-new : (k : ℕ) → k < length new → lastOf (getD after (length q + k) []) ≡ getD new k 0
-  leads-new k l = ap lastOf (at-new k l) ∙ last-linked (getD q h []) (getD new k 0)
 
   -- whom a link leads to
   record Found (x : ℕ) : Type 0 where
@@ -147,7 +133,7 @@ module _ (a : List ℕ) (n h : ℕ) (q : List (List ℕ)) (v : Queue a n h q) (w
 
   by-place : (P : ℕ → List ℕ → Type 0) → ((i : ℕ) → i < length q → P i (getD q i [])) → ((k : ℕ) → k < length new → P (length q + k) (getD q h [] ++ (getD new k 0 ∷ []))) →
       (i : ℕ) → i < length after → P i (getD after i [])
-  by-place P f g i l = elim (place i l) [
+  by-place P f g i l = elim (grown-place q (getD q h []) new i l) [
     | old i b ↦ subst (P i) (sym (at-old i b)) (f i b)
     | more k b ↦ subst (P (length q + k)) (sym (at-new k b)) (g k b)
   ]
@@ -158,7 +144,7 @@ module _ (a : List ℕ) (n h : ℕ) (q : List (List ℕ)) (v : Queue a n h q) (w
   new-linked : (x : ℕ) → Linked (suc h) after (getD q h [] ++ (x ∷ []))
   new-linked x = record { place = h; before = omega arith; object = x; here = ap (λ (d : List ℕ). d ++ (x ∷ [])) (sym (at-old h taken)) }
 
-  more-sorted : (i j : ℕ) → i < j → Place i → Place j → Ahead (getD after i []) (getD after j [])
+  more-sorted : (i j : ℕ) → i < j → Place q new i → Place q new j → Ahead (getD after i []) (getD after j [])
   more-sorted i j l (old _ a′) (old _ b) = rw (at-old i a′, at-old j b) (v .sorted i j l b)
   more-sorted i j l (old _ a′) (more k b) = rw (at-old i a′, at-new k b) (old-ahead (getD new k 0) i a′)
   more-sorted i j l (more k b) (old _ a′) = absurd (omega arith)
@@ -183,7 +169,7 @@ module _ (a : List ℕ) (n h : ℕ) (q : List (List ℕ)) (v : Queue a n h q) (w
     object = by-place (λ i c. Object n (lastOf c)) (v .object)
         (λ k b. let p = passing-passes (finds a q (getD q h [])) (objectCount n) k b in subst (Object n) (sym (last-linked (getD q h []) _)) (record { low = p .low; top = p .top }));
     linked = λ i p l. by-place (λ i c. 0 < i → Linked (suc h) after c) (λ i b p. still-linked _ (v .linked i p b)) (λ k b p. new-linked _) i l p;
-    sorted = λ i j l b. more-sorted i j l (place i (omega arith)) (place j b);
+    sorted = λ i j l b. more-sorted i j l (grown-place q (getD q h []) new i (omega arith)) (grown-place q (getD q h []) new j b);
     closed = λ i f x b l r. more-closed i f x b r;
   }
 

@@ -4,12 +4,12 @@ use native.Mathlib.Omega.{arith}
 use native.Mathlib.Decide.{ℕ-discrete}
 use native.Mathlib.Numerals.{add-one}
 use mathlib.Core.Path.{_≡_, refl, sym, ap, _∙_, subst}
-use mathlib.Core.Bool.{Bool, true, false, not, _||_}
+use mathlib.Core.Bool.{Bool, true, false, _||_}
 use mathlib.Core.List.{List, [], _∷_, _++_}
 use lib.ListN.{length, getD, set, replicate, length-set, length-replicate, getD-replicate, List·getD-append, List·getD-eq-default}
 use lib.Seq.{getD-set-same, getD-set-other, getD-at}
-use lib.Dec.{ltb, eqb}
-use borrow.Author.Tests.{ltb-true, ltb-false, eq-eqb, ne-eqb}
+use lib.Dec.{ltb}
+use borrow.Author.Tests.{ltb-true, ltb-false, ne-eqb}
 use Rattle.words.specs.Tests.{by-bool, clash, or-false}
 use Rattle.words.specs.Counts.{count-most}
 use Rattle.pages.specs.Geometry.{maxPages, objectCount, root}
@@ -17,7 +17,7 @@ use Rattle.reach.specs.Search.{lastOf, found, passing, extended, searched, chai
 use Rattle.chain_laws.specs.Order.{link-length}
 use Rattle.chain_laws.specs.Passing.{passing-none}
 use Rattle.chain_laws.specs.Queues.{found-leads, found-append, grown-length}
-use Rattle.chain_laws.specs.Links.{Object, Within, sound-within}
+use Rattle.chain_laws.specs.Links.{Object, sound-within}
 use Rattle.chain_laws.specs.Searching.{Queue, last-root, found-root, searched-first, searched-next, searched-rest, followed-finds, finds, searched-queue}
 use Rattle.chain_laws.specs.Answers.{first-to, none-to, still-to}
 use Rattle.chain_search.specs.Following.{SearchedArea, hasFinder, Finder, Between, Shows}

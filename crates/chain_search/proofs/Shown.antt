@@ -1,14 +1,14 @@
 -- The buffer once the chain is in it and the rest is cleared. Assumes nothing.
 use Prim.Native.Nat.{ℕ, _+_, _-_, _<_, _≤_}
 use native.Mathlib.Omega.{arith}
-use mathlib.Core.Path.{_≡_, refl, sym, ap, _∙_, subst}
-use mathlib.Core.List.{List, [], _++_}
+use mathlib.Core.Path.{_≡_, sym, ap, _∙_}
+use mathlib.Core.List.{List, []}
 use lib.ListN.{length, getD, replicate, length-append, length-replicate, getD-replicate, List·getD-append}
 use lib.Seq.{ext-getD, getD-append-add}
 use lib.Dec.{ltb}
 use borrow.Author.Tests.{ltb-true, ltb-false}
 use Rattle.words.specs.Tests.{by-bool}
-use Rattle.words.specs.Spans.{fill, length-fill, fill-outside, fill-inside}
+use Rattle.words.specs.Spans.{length-fill, fill-outside, fill-inside}
 use Rattle.calls.specs.Chains.{chainWords, shown}
 use Rattle.chain_search.specs.Tracing.{Back, Reversed}
 use Rattle.chain_search.specs.Showing.{shownFrom, clearedFrom}

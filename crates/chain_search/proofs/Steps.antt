@@ -1,21 +1,17 @@
 -- An object is taken from the queue, and once its words are followed the queue is that of the next step. Assumes nothing.
-use Prim.Native.Nat.{ℕ, suc, _+_, _-_, _<_, _≤_}
+use Prim.Native.Nat.{ℕ, _+_, _-_, _<_}
 use native.Mathlib.Omega.{arith}
 use native.Mathlib.Numerals.{add-one}
 use mathlib.Core.Path.{_≡_, refl, sym, ap, _∙_, subst}
-use mathlib.Core.Bool.{Bool, true, false, not, _&&_, _||_}
+use mathlib.Core.Bool.{Bool, false, not, _&&_}
 use mathlib.Core.List.{List, [], _∷_, _++_}
-use lib.ListN.{length, getD, set, length-set}
-use lib.Seq.{getD-set-same, getD-set-other}
-use lib.Dec.{ltb, eqb}
-use borrow.Author.Tests.{ltb-true, ltb-false}
-use Rattle.words.specs.Tests.{any, by-bool, clash, and-false, or-false}
-use Rattle.pages.specs.Geometry.{slotWords, maxPages, objectCount, isRef, root}
-use Rattle.pages.specs.Objects.{wordOf}
+use lib.ListN.{length, getD}
+use lib.Dec.{eqb}
+use Rattle.words.specs.Tests.{any, clash, and-false, or-false}
+use Rattle.pages.specs.Geometry.{slotWords, objectCount}
 use Rattle.reach.specs.Search.{lastOf, found, passing, extended, searched}
 use Rattle.chain_laws.specs.Passing.{passing-none, passing-passes}
-use Rattle.chain_laws.specs.Queues.{last-linked, grown-length, grown-old, grown-new, grown-found}
-use Rattle.chain_laws.specs.Links.{Object}
+use Rattle.chain_laws.specs.Queues.{Place, old, more, grown-place, last-linked, grown-length, grown-old, grown-new, grown-found}
 use Rattle.chain_laws.specs.Searching.{finds, searched-next, followed-finds}
 use Rattle.chain_search.specs.Following.{Finder, Between, namedIn, Taking, Shows}
 use Rattle.chain_search.proofs.Takes.{between-same, between-none}
@@ -53,27 +49,17 @@ module _ (a : List ℕ) (n head first u : ℕ) (from queue : List ℕ) (tail : �
   between : Between n q u (finds a q c) from queue tail
   between = subst (λ (v : ℕ). Between n q u (λ x. namedIn a v slotWords x && not (found q x)) from queue tail) (t .object) (t .between)
 
-  data Place : ℕ → Type 0 where
-    old : (i : ℕ) → i < length q → Place i
-    more : (k : ℕ) → k < length new → Place (length q + k)
-
-  place : (i : ℕ) → i < length (q ++ extended c new) → Place i
-  place i l = by-bool (ltb i (length q))
-      (λ t. old i (ltb-true i (length q) t))
-      (λ t. let b = ltb-false i (length q) t in let e = grown-length q c new in let z : length q + (i - length q) ≡ i = omega arith in
-      subst Place z (more (i - length q) (omega arith)))
-
   leads-old : (i : ℕ) → i < length q → lastOf (getD (q ++ extended c new) i []) ≡ lastOf (getD q i [])
   leads-old i l = ap lastOf (grown-old q c new i l)
 
   leads-new : (k : ℕ) → k < length new → lastOf (getD (q ++ extended c new) (length q + k) []) ≡ getD new k 0
   leads-new k l = ap lastOf (grown-new q c new k l) ∙ last-linked c (getD new k 0)
 
-  places : (i : ℕ) → Place i → getD queue i 0 ≡ lastOf (getD (q ++ extended c new) i [])
+  places : (i : ℕ) → Place q new i → getD queue i 0 ≡ lastOf (getD (q ++ extended c new) i [])
   places _ (old i l) = between .old i l ∙ sym (leads-old i l)
   places _ (more k l) = between .new k l ∙ sym (leads-new k l)
 
-  finders : (i : ℕ) → 0 < i → Place i → Finder (q ++ extended c new) from i
+  finders : (i : ℕ) → 0 < i → Place q new i → Finder (q ++ extended c new) from i
   finders _ p (old i l) = let k = between .finders i p l in let e = grown-old q c new i l in let d = grown-old q c new (k .place) (let b = k .before in omega arith) in record {
     place = k .place;
     before = k .before;
@@ -92,10 +78,10 @@ module _ (a : List ℕ) (n head first u : ℕ) (from queue : List ℕ) (tail : �
     from-room = between .from-room;
     queue-room = between .queue-room;
     size = (let s = between .size in let e = grown-length q c new in omega arith);
-    old = λ i l. places i (place i l);
+    old = λ i l. places i (grown-place q c new i l);
     new = λ i l. absurd (omega arith);
     marks = λ x o. between .marks x o ∙ sym (grown-found q c (finds a q c) (objectCount n) x (o .low) (o .top)) ∙ sym (or-false _);
-    finders = λ i p l. finders i p (place i l);
+    finders = λ i p l. finders i p (grown-place q c new i l);
     found-here = λ x o e. clash e refl;
   }
 

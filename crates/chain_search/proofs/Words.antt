@@ -1,25 +1,24 @@
 -- One word of the object that is taken: it names nobody, or somebody found before, or somebody who enters. Assumes nothing.
-use Prim.Native.Nat.{ℕ, suc, _+_, _-_, _<_, _≤_}
+use Prim.Native.Nat.{ℕ, suc, _+_, _-_, _<_}
 use native.Mathlib.Omega.{arith}
 use native.Mathlib.Decide.{ℕ-discrete}
-use mathlib.Core.Path.{_≡_, refl, sym, ap, _∙_, subst}
+use mathlib.Core.Path.{_≡_, sym, ap, _∙_, subst}
 use mathlib.Core.Bool.{Bool, true, false, not, _&&_, _||_}
 use mathlib.Core.Logic.{inl, inr}
 use mathlib.Core.List.{List, [], _++_}
-use lib.ListN.{length, getD}
+use lib.ListN.{getD}
 use lib.Dec.{eqb}
-use borrow.Author.Tests.{eq-eqb, ne-eqb, eqb-true, not-true, not-false}
+use borrow.Author.Tests.{eq-eqb, ne-eqb, not-true}
 use Rattle.words.specs.Tests.{any, any-next, by-bool, clash, and-split, and-false, or-cases, or-false, or-true, or-false-l, or-false-r}
 use Rattle.words.specs.Counts.{count-less}
 use Rattle.pages.specs.Geometry.{slotWords, maxPages, objectCount, isRef}
 use Rattle.pages.specs.Objects.{wordOf}
-use Rattle.reach.specs.Search.{lastOf, found, passing, extended, searched}
+use Rattle.reach.specs.Search.{found, passing, extended, searched}
 use Rattle.chain_laws.specs.Queues.{grown-length, grown-found, grown-size}
 use Rattle.chain_laws.specs.Links.{Object, sound-within}
 use Rattle.chain_laws.specs.Searching.{Queue, searched-queue}
-use Rattle.reach.specs.Reaching.{Refers}
 use Rattle.chain_search.specs.Entering.{Inserted, Visited, known, entered}
-use Rattle.chain_search.specs.Following.{SearchedArea, hasFinder, Between, namedIn, Taking}
+use Rattle.chain_search.specs.Following.{SearchedArea, namedIn, Taking}
 use Rattle.chain_search.proofs.OneMore.{OneMore}
 use Rattle.chain_search.proofs.Takes.{between-same, between-entered}
 
@@ -82,7 +81,7 @@ module _ (a : List ℕ) (n head first u f : ℕ) (from queue : List ℕ) (tail :
         let g = grown-size q [] (findsIn a q u f) m (chains .size) (λ y h. not-true _ (and-split (namedIn a u f y) (not (found q y)) h .1)) in
         let k = grown-length q [] (passing (findsIn a q u f) m) in
         let c = count-less (λ k. found (q ++ extended [] (passing (findsIn a q u f) m)) (suc k)) m (x - 1) (let h = o .top in omega arith)
-            (subst (λ (y : ℕ). found (q ++ extended [] (passing (findsIn a q u f) m)) y ≡ false) (sym z) (grown-found q [] (findsIn a q u f) m x (o .low) (o .top) ∙ unfound e)) in
+        (subst (λ (y : ℕ). found (q ++ extended [] (passing (findsIn a q u f) m)) y ≡ false) (sym z) (grown-found q [] (findsIn a q u f) m x (o .low) (o .top) ∙ unfound e)) in
         let s = t .between .size in
         omega arith
 

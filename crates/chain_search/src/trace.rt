@@ -2,7 +2,6 @@
 ghost use mathlib.Core.Path.{_≡_};
 ghost use Prim.Native.Nat.{_≤_};
 ghost use lib.ListN.{length};
-ghost use Rattle.pages.specs.Geometry.{objectCount, maxPages};
 ghost use Rattle.calls.specs.Chains.{chainWords};
 ghost use Rattle.chain_search.specs.Tracing.{Traceable, Reversed};
 ghost use Rattle.chain_search.specs.Showing.{shownFrom, clearedFrom};

@@ -1,22 +1,19 @@
 -- What an accepted chain shows of the copies. Assumes nothing.
-use Prim.Native.Nat.{ℕ, suc, _-_, _<_, _≤_}
+use Prim.Native.Nat.{ℕ, _-_, _≤_}
 use native.Mathlib.Omega.{arith}
 use mathlib.Core.Path.{_≡_, refl, sym, ap, _∙_, subst}
-use mathlib.Core.Bool.{true, false}
+use mathlib.Core.Bool.{true}
 use mathlib.Core.Logic.{_⊎_, inl, inr}
 use mathlib.Core.List.{List, [], _∷_, _++_}
 use lib.ListN.{length, replicate}
 use lib.Dec.{eqb}
-use Rattle.words.specs.Tests.{by-bool, clash}
+use Rattle.words.specs.Tests.{by-bool}
 use Rattle.pages.specs.Geometry.{objectCount}
 use Rattle.pages.specs.Geometry as geometry
 use Rattle.pages.specs.Soundness.{areaSound}
-use Rattle.reach.specs.Reaching.{Reached}
 use Rattle.reach.specs.Chains.{Chain, root, link, Lower, Ahead, Least}
 use Rattle.reach.specs.Search.{found, searched, chainIn}
-use Rattle.areas.specs.declared.Answer.the-variants.{Done}
-use Rattle.areas.specs.declared.Check.the-variants.{Accept}
-use Rattle.areas.specs.Answers.{valueOf, verdict, passed, accepted}
+use Rattle.areas.specs.Answers.{valueOf, accepted}
 use Rattle.areas.specs.Areas.{Areas, Out, done}
 use Rattle.areas.specs.Entry.{pages, reopening}
 use Rattle.areas.specs.Layout.{finished}
@@ -30,7 +27,7 @@ use Rattle.chain_laws.specs.Order.{link-length}
 use Rattle.chain_laws.specs.Links.{sound-within}
 use Rattle.chain_laws.specs.Searching.{chain-some}
 use Rattle.chain_laws.specs.Answers.{shown-least, shown-none, chain-reached, reached-chain}
-use Rattle.guarantees.specs.Chains.{Tells, ShowsLeast, ShowsNone, ShowsIn, ChainShown, ToldReached, ChainReached, ChainOfRoot}
+use Rattle.guarantees.specs.Chains.{Tells, ShowsLeast, ShowsNone, ChainShown, ChainReached, ChainOfRoot}
 
 -- what an accepted chain has found, and what it leaves
 pub record Facts (s : Areas) (buffer : List ℕ) (o v : ℕ) : Type 0 where

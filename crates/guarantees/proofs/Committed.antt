@@ -1,14 +1,13 @@
 -- Where no transaction runs the copies show the committed state, and so do the chains. Assumes nothing.
 use Prim.Native.Nat.{ℕ, _<_, _≤_}
 use native.Mathlib.Omega.{arith}
-use mathlib.Core.Path.{_≡_, refl, sym, ap, _∙_}
-use mathlib.Core.Bool.{true, false}
+use mathlib.Core.Path.{_≡_, sym, ap, _∙_}
+use mathlib.Core.Bool.{false}
 use mathlib.Core.List.{List}
-use Rattle.words.specs.Tests.{by-bool, clash}
+use Rattle.words.specs.Tests.{by-bool}
 use Rattle.pages.specs.Geometry.{slotWords, pageOf, slotOf}
 use Rattle.pages.specs.Objects.{wordOf}
 use Rattle.page_laws.specs.SoundFacts.{ref-same}
-use Rattle.reach.specs.Reaching.{Refers}
 use Rattle.reach.specs.Chains.{Chain, root, link, Least}
 use Rattle.areas.specs.Areas.{Areas}
 use Rattle.areas.specs.Layout.{finished}
@@ -16,19 +15,15 @@ use Rattle.areas.specs.Entry.{reopening}
 use Rattle.collector.specs.Objects as Collector
 use Rattle.collector.specs.Objects.{Obj}
 use Rattle.book.specs.Books.{Book, committedPages}
-use Rattle.book.specs.Demand.{Point}
-use Rattle.machine_view.specs.View.{view}
 use Rattle.machine_view.proofs.Effects.{view-word}
 use Rattle.machine_calls.specs.Tables.{locksOf}
-use Rattle.book_laws.specs.Seen.{seenCommitted}
 use Rattle.book_laws.proofs.Pages.{committed-view}
 use Rattle.demand.proofs.State.{OpenInv, Inv3, open-store, cut-store, reopening-store}
 use Rattle.chain_laws.specs.Answers.{chain-reached}
 use Rattle.reach.specs.Reaching.{reached-some}
-use Rattle.guarantees.specs.Chains.{Tells, ShowsLeast, ShowsNone, ShowsIn, Quiet, CommittedChain, AlwaysCommittedChain}
-use Rattle.guarantees.proofs.Always.{Sure}
+use Rattle.guarantees.specs.Chains.{Tells, ShowsIn, CommittedChain, AlwaysCommittedChain}
 use Rattle.guarantees.proofs.Refusals.{always}
-use Rattle.guarantees.proofs.Chains.{Facts, facts, tells-least, tells-none}
+use Rattle.guarantees.proofs.Chains.{facts, tells-least, tells-none}
 
 -- two areas that show the same words of every object have the same chains
 module _ (a b : List ℕ) (same : (u f : ℕ) → 1 ≤ u → f < slotWords → wordOf a u f ≡ wordOf b u f) where

@@ -2,7 +2,7 @@
 -- state by the book. Assumes nothing.
 use Prim.Native.Nat.{ℕ, _-_}
 use mathlib.Core.Path.{_≡_}
-use mathlib.Core.List.{List, [], _∷_, _++_}
+use mathlib.Core.List.{List, _∷_, _++_}
 use lib.ListN.{length, replicate}
 use Rattle.pages.specs.Geometry.{root}
 use Rattle.reach.specs.Reaching.{Reached}

@@ -1,5 +1,4 @@
 -- A call that only looks, by its first refusal or its value. Assumes nothing.
-use Prim.Native.Nat.{ℕ}
 use mathlib.Core.Path.{_≡_}
 use mathlib.Core.Bool.{true, false}
 use Rattle.areas.specs.declared.Refusal.{Refusal}

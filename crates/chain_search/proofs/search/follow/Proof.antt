@@ -1,7 +1,7 @@
 -- Invariant: the words before f are followed. Assumes nothing.
-use Prim.Native.Nat.{ℕ, _-_, _≤_}
+use Prim.Native.Nat.{_-_, _≤_}
 use native.Mathlib.Omega.{arith}
-use mathlib.Core.Path.{_≡_, subst}
+use mathlib.Core.Path.{_≡_}
 use borrow.Author.Needs.{needs}
 use Rattle.pages.specs.Geometry.{slotWords}
 use Rattle.chain_search.specs.Following.{Taking}
