@@ -1,7 +1,7 @@
--- Where no transaction runs the copies show the committed state, and so do the chains. Assumes nothing.
+-- Where no transaction runs the copies show the committed state, and so do the chains; and the call is one of demand 3's. Assumes nothing.
 use Prim.Native.Nat.{ℕ, _<_, _≤_}
 use native.Mathlib.Omega.{arith}
-use mathlib.Core.Path.{_≡_, sym, ap, _∙_}
+use mathlib.Core.Path.{_≡_, refl, sym, ap, _∙_}
 use mathlib.Core.Bool.{false}
 use mathlib.Core.List.{List}
 use Rattle.words.specs.Tests.{by-bool}
@@ -10,6 +10,8 @@ use Rattle.pages.specs.Objects.{wordOf}
 use Rattle.page_laws.specs.SoundFacts.{ref-same}
 use Rattle.reach.specs.Chains.{Chain, root, link, Least}
 use Rattle.areas.specs.Areas.{Areas}
+use Rattle.calls.specs.Calls.{perform}
+use Rattle.calls.specs.Chains.{callChain}
 use Rattle.areas.specs.Layout.{finished}
 use Rattle.areas.specs.Entry.{reopening}
 use Rattle.collector.specs.Objects as Collector
@@ -21,7 +23,7 @@ use Rattle.book_laws.proofs.Pages.{committed-view}
 use Rattle.demand.proofs.State.{OpenInv, Inv3, open-store, cut-store, reopening-store}
 use Rattle.chain_laws.specs.Answers.{chain-reached}
 use Rattle.reach.specs.Reaching.{reached-some}
-use Rattle.guarantees.specs.Chains.{Tells, ShowsIn, CommittedChain, AlwaysCommittedChain}
+use Rattle.guarantees.specs.Chains.{ChainIsACall, Tells, ShowsIn, CommittedChain, AlwaysCommittedChain}
 use Rattle.guarantees.proofs.Refusals.{always}
 use Rattle.guarantees.proofs.Chains.{facts, tells-least, tells-none}
 
@@ -69,3 +71,7 @@ by-store n s b (reopening-store k l i) quiet = record {
 
 pub always-committed-chain : AlwaysCommittedChain
 always-committed-chain = always CommittedChain (λ n some q u quiet. by-store n (q .store) (q .book) (u .inv) quiet)
+
+pub chain-is-a-call : ChainIsACall
+unfolding perform callChain
+chain-is-a-call s buffer o = refl

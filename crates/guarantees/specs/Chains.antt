@@ -9,10 +9,15 @@ use Rattle.reach.specs.Reaching.{Reached}
 use Rattle.reach.specs.Chains.{Chain, Least}
 use Rattle.areas.specs.declared.Answer.the-variants.{Done}
 use Rattle.areas.specs.Areas.{Areas}
-use Rattle.calls.specs.Chains.{chainWords, callChain, chainAfter}
+use Rattle.calls.specs.Calls.{look, perform}
+use Rattle.calls.specs.Chains.{chainWords, chainLook, callChain, chainAfter}
 use Rattle.book.specs.Books.{committedPages}
 use Rattle.book.specs.Demand.{Point}
 use Rattle.guarantees.specs.Points.{Always}
+
+-- the call is one of those that demand 3's lists are made of: it only looks
+abbrev pub ChainIsACall : Type 0
+ChainIsACall = (s : Areas) (buffer : List ℕ) (o : ℕ) → perform s (look (chainLook buffer o)) ≡ callChain s buffer o
 
 -- asked for the chain of object o, store s answers 0, with value v
 abbrev pub Tells : Areas → List ℕ → ℕ → ℕ → Type 0
