@@ -1,5 +1,5 @@
-/* A depot's day through the C functions: a dispenser with two valves, one of them replaced, a pass
- * that frees the old one, a power cut in the middle of a job, and the start after it.
+/* A depot's day through the C functions: a dispenser with two valves, one of them replaced, what
+ * leads to the old one, a pass that frees it, a power cut in the middle of a job, and the start after it.
  * docs/CALLING.md explains the calls; examples/depot.rs is the same day in Rust. */
 #include <inttypes.h>
 #include <stdio.h>
@@ -172,13 +172,25 @@ static void show(uint32_t t)
     done(kophdaen_areas_commit(&depot, t));
 }
 
+/* Why is the old valve still here: the objects that lead to it from the root. */
+static void why(void)
+{
+    uint32_t chain[KOPHDAEN_CHAIN_WORDS], objects = done(kophdaen_areas_chain(&depot, LENT(chain), OLD_VALVE));
+    printf("chain to valve %d, %" PRIu32 " objects:", OLD_VALVE, objects);
+    for (uint32_t i = 0; i < objects; i++)
+        printf(" %" PRIu32, chain[i]);
+    printf("\n");
+}
+
 int main(void)
 {
     format();
     install(0);
     show(0);
+    why();
     empty_log();
     replace_valve(1);
+    why();
     printf("slots freed: %" PRIu32 "\n", collect());
     reach_dispenser(2);
     done(kophdaen_areas_set_word(&depot, 2, DISPENSER, 0, 0)); /* a job that the cut stops */

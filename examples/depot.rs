@@ -1,8 +1,8 @@
-//! A depot's day through the Rust wrapper: a dispenser with two valves, one of them replaced, a pass
-//! that frees the old one, a power cut in the middle of a job, and the start after it.
+//! A depot's day through the Rust wrapper: a dispenser with two valves, one of them replaced, what
+//! leads to the old one, a pass that frees it, a power cut in the middle of a job, and the start after it.
 //! docs/CALLING.md explains the calls; examples/depot.c is the same day in C.
 
-use kophdaen::{Answer, Store, OBJECT_WORDS, PAGE_WORDS, RECORD_WORDS};
+use kophdaen::{Answer, Store, CHAIN_WORDS, OBJECT_WORDS, PAGE_WORDS, RECORD_WORDS};
 
 const PAGES: usize = 4;
 const RECORDS: usize = 64;
@@ -165,14 +165,27 @@ impl Server {
         );
         done(self.store.commit(t));
     }
+
+    /// Why is the old valve still here: the objects that lead to it from the root.
+    fn why(&mut self) {
+        let mut chain = [0; CHAIN_WORDS];
+        let objects = done(self.store.chain(&mut chain, OLD_VALVE)) as usize;
+        print!("chain to valve {OLD_VALVE}, {objects} objects:");
+        chain[..objects]
+            .iter()
+            .for_each(|object| print!(" {object}"));
+        println!();
+    }
 }
 
 fn main() {
     let mut server = Server::format();
     server.install(0);
     server.show(0);
+    server.why();
     server.empty_log();
     server.replace_valve(1);
+    server.why();
     println!("slots freed: {}", server.collect());
     server.reach_dispenser(2);
     done(server.store.set_word(2, DISPENSER, 0, 0)); // a job that the cut stops

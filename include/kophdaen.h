@@ -11,10 +11,10 @@
  * as a uint32_t (with the length 0 it may be NULL, and the call answers 1), and what a call is lent
  * does not overlap, its image or buffer neither with an area.
  *
- * A call answers  answer number * 2^32 + value : number 0 where accepted, else the refusal's number
- * in document 01's table, with the value 0 and every buffer as it was. Any words may be lent, but to
- * the held calls. docs/CALLING.md has the refusals, what to write to the disk and when, and names
- * whole programs.
+ * A call answers  answer number * 2^32 + value : number 0 where accepted, else the number of the
+ * refusal (1 to 15), with the value 0 and every buffer as it was. Any words may be lent, but to the
+ * held calls. docs/CALLING.md has the refusals, what to write to the disk and when, and names whole
+ * programs.
  */
 #ifndef KOPHDAEN_H
 #define KOPHDAEN_H
@@ -30,6 +30,7 @@ extern "C" {
 #define KOPHDAEN_VALUE(code) ((uint32_t)(code))
 #define KOPHDAEN_PAGE_WORDS 129u
 #define KOPHDAEN_OBJECT_WORDS 8u
+#define KOPHDAEN_CHAIN_WORDS 4096u
 #define KOPHDAEN_RECORD_WORDS 6u
 #define KOPHDAEN_COUNTS_WORDS 2u
 #define KOPHDAEN_WORK_WORDS(pages) (6u + 67u * (pages))
@@ -140,6 +141,17 @@ uint64_t kophdaen_reopen_step(
     const uint32_t *received, size_t received_words, const uint32_t *log, size_t log_words,
     uint32_t *counts, size_t counts_words, uint32_t *work, size_t work_words);
 
+/* Puts a chain of references in the page copies, from the root to the object, into chain, of 4096
+ * words: root first, then zeros; all zeros where there is none. It has the fewest links, and of equally
+ * short ones it is the one with the lower object at the first difference, read from the root. Answers
+ * 15 where the object's slot is free in the copies. Takes 33 kB of stack. Value: the chain's number of
+ * objects, or 0. */
+uint64_t kophdaen_chain(
+    const uint32_t *stored, size_t stored_words, const uint32_t *copies, size_t copies_words,
+    const uint32_t *received, size_t received_words, const uint32_t *log, size_t log_words,
+    const uint32_t *counts, size_t counts_words, const uint32_t *work, size_t work_words,
+    uint32_t *chain, size_t chain_words, uint32_t object);
+
 /* Whether every object that the root reaches is occupied, in one page area: stored, copies or
  * received. Reaches: the root, and what words 0 to 3 of a reached object name, where not 0; an object
  * above 16 * P is not occupied. Answers 1 where the length is not 129 * P. Takes 33 kB of stack.
@@ -151,7 +163,7 @@ uint64_t kophdaen_whole(const uint32_t *pages, size_t pages_words);
  *   - kophdaen_format has accepted the areas; or kophdaen_reopen has, with what a disk held, and
  *     kophdaen_whole then found the received pages whole (value 1), before the first reopening step;
  *   - since then only calls, lent or held, and cuts have changed the areas;
- *   - a read buffer has 8 words, an image 129.
+ *   - a read buffer has 8 words, an image 129, a chain's buffer 4096.
  * A held call on anything else may do anything. Refusal 2 and all others are answered as ever. An
  * audit is a lent call that changes nothing, as kophdaen_lock_read with t = 16: it answers 1 only
  * where some word is out of range, else 2 or 3. */
@@ -170,6 +182,7 @@ __typeof__(kophdaen_empty_log) kophdaen_held_empty_log;
 __typeof__(kophdaen_start_pass) kophdaen_held_start_pass;
 __typeof__(kophdaen_pass_step) kophdaen_held_pass_step;
 __typeof__(kophdaen_reopen_step) kophdaen_held_reopen_step;
+__typeof__(kophdaen_chain) kophdaen_held_chain;
 
 /* The six areas as one value, and every call on it: what stands above, with the areas in one argument. */
 typedef struct kophdaen_areas {
@@ -282,6 +295,12 @@ static inline uint64_t kophdaen_areas_reopen_step(const kophdaen_areas *areas)
     return kophdaen_reopen_step(KOPHDAEN_LENT(areas));
 }
 
+static inline uint64_t kophdaen_areas_chain(
+    const kophdaen_areas *areas, uint32_t *chain, size_t chain_words, uint32_t object)
+{
+    return kophdaen_chain(KOPHDAEN_LENT(areas), chain, chain_words, object);
+}
+
 /* .. and the held ones. */
 static inline uint64_t kophdaen_areas_held_begin(const kophdaen_areas *areas, uint32_t t)
 {
@@ -362,6 +381,12 @@ static inline uint64_t kophdaen_areas_held_pass_step(const kophdaen_areas *areas
 static inline uint64_t kophdaen_areas_held_reopen_step(const kophdaen_areas *areas)
 {
     return kophdaen_held_reopen_step(KOPHDAEN_LENT(areas));
+}
+
+static inline uint64_t kophdaen_areas_held_chain(
+    const kophdaen_areas *areas, uint32_t *chain, size_t chain_words, uint32_t object)
+{
+    return kophdaen_held_chain(KOPHDAEN_LENT(areas), chain, chain_words, object);
 }
 
 #undef KOPHDAEN_LENT

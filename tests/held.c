@@ -5,12 +5,12 @@
 
 #include "kophdaen.h"
 
-enum { PAGES = 2, RECORDS = 16, CALLS = 32 };
+enum { PAGES = 2, RECORDS = 16, CALLS = 40 };
 
 typedef struct store {
     uint32_t stored[PAGES * KOPHDAEN_PAGE_WORDS], copies[PAGES * KOPHDAEN_PAGE_WORDS], received[PAGES * KOPHDAEN_PAGE_WORDS];
     uint32_t records[RECORDS * KOPHDAEN_RECORD_WORDS], counts[KOPHDAEN_COUNTS_WORDS], work[KOPHDAEN_WORK_WORDS(PAGES)];
-    uint32_t buffer[KOPHDAEN_OBJECT_WORDS];
+    uint32_t buffer[KOPHDAEN_OBJECT_WORDS], chain[KOPHDAEN_CHAIN_WORDS];
     uint64_t codes[CALLS];
 } store;
 #define LENT(area) area, sizeof area / sizeof *area
@@ -45,8 +45,13 @@ static void work(const kophdaen_areas *a, store *s, int held)
     CALL(0, set_word, a, 0, 2, 4, 50118);
     CALL(0, set_word, a, 0, 1, 3, 2);
     CALL(0, read, a, LENT(s->buffer), 0, 2);
+    memset(s->chain, 255, sizeof s->chain);
+    CALL(15, chain, a, LENT(s->chain), 2);
     memcpy(image, s->received, sizeof image);
     CALL(0, flush, a, LENT(image), 0, 0);
+    CALL(0, chain, a, LENT(s->chain), 2);
+    expect("the chain is 1 2", KOPHDAEN_VALUE(code[-1]) == 2 && s->chain[0] == 1 && s->chain[1] == 2 && s->chain[2] == 0);
+    CALL(3, chain, a, LENT(s->chain), 33);
     CALL(0, commit, a, 0);
     CALL(0, begin, a, 1);
     CALL(0, abort, a, 1);

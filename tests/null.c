@@ -1,4 +1,4 @@
-/* include/kophdaen.h: with the length 0 a pointer may be NULL, and the call answers 1. Tried of areas, of an image, of a read buffer
+/* include/kophdaen.h: with the length 0 a pointer may be NULL, and the call answers 1. Tried of areas, of an image, of the buffers
  * and of the pages that may be whole. Prints nothing where it is so. */
 #include <stdio.h>
 
@@ -36,6 +36,7 @@ int main(void)
     answers("a lock for writing", kophdaen_areas_lock_write(&depot, 0, 0), 0);
     answers("read into no buffer", kophdaen_areas_read(&depot, NULL, 0, 0, 1), 1);
     answers("flush of no image", kophdaen_areas_flush(&depot, NULL, 0, 0, 0), 1);
+    answers("chain into no buffer", kophdaen_areas_chain(&depot, NULL, 0, 1), 1);
     answers("whole of no pages", kophdaen_whole(NULL, 0), 1);
     return wrong;
 }

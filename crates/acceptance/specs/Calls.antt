@@ -11,6 +11,7 @@ use Rattle.areas.specs.Areas.{Areas, done}
 use Rattle.areas.specs.Entry.{pages, records}
 use Rattle.calls.specs.Formatting.{formatted, formatTests, callFormat}
 use Rattle.calls.specs.Objects.{callRead, ifAccepted, bufferAfter}
+use Rattle.calls.specs.Chains.{callChain, chainAfter}
 use Rattle.calls.specs.Calls.{Call, perform}
 use Rattle.calls.specs.Calls.Call.{begin, commit, abort, lockRead, lockWrite, read, create, setWord, flush, force, store, empty, pass, step, reopen, restep, look}
 use Rattle.acceptance.specs.Ran.{Keeps, done-keeps, checked-keeps}
@@ -54,3 +55,7 @@ buffer-by (Refused x) words buffer e = refl
 pub buffer-keeps : (s : Areas) (t o : ℕ) (buffer : List ℕ) → accepted (callRead s t o buffer .answer) ≡ false → bufferAfter s t o buffer ≡ buffer
 unfolding bufferAfter
 buffer-keeps s t o buffer e = buffer-by (callRead s t o buffer .answer) _ buffer e
+
+pub chain-keeps : (s : Areas) (buffer : List ℕ) (o : ℕ) → accepted (callChain s buffer o .answer) ≡ false → chainAfter s buffer o ≡ buffer
+unfolding chainAfter
+chain-keeps s buffer o e = buffer-by (callChain s buffer o .answer) _ buffer e

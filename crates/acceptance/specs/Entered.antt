@@ -47,6 +47,10 @@ formed own s h =
       range = λ no0. range-asked (reopening s) (inRange s (pages s) (records s)) no0 (p .1);
     }
 
+-- of a call with a buffer of its own: its length is right
+pub formed-own : (own : Bool) (s : Areas) → wellFormed own s ≡ true → own ≡ true
+formed-own own s h = formed own s h .own-fits
+
 when-must : (must done : Bool) → not must || done ≡ true → must ≡ true → done ≡ true
 when-must true done h e = h
 when-must false done h e = clash e refl

@@ -4,10 +4,11 @@ use Prim.Native.Nat.{ℕ, zero, suc, _+_}
 use mathlib.Core.Bool.{Bool, false, not, _&&_, _||_}
 use mathlib.Core.List.{List, _∷_}
 use lib.Dec.{eqb, ltb}
-use Rattle.words.specs.Tests.{if, any}
+use Rattle.words.specs.Tests.{if}
 use Rattle.words.specs.Bits.{mapOf}
-use Rattle.pages.specs.Geometry.{isRef, root}
+use Rattle.pages.specs.Geometry.{root}
 use Rattle.pages.specs.Objects.{taken, wordOf}
+use Rattle.reach.specs.Reaching.{refersTo}
 use Rattle.records.specs.declared.Record.{Record}
 use Rattle.records.specs.Records.{beginOf, createOf, setOf, commitOf, abortedOf, sweepOf}
 use Rattle.calls.specs.Calls.{Call, begin, commit, abort, lockRead, lockWrite, read, create, setWord, flush, force, store, empty, pass, step, reopen, restep, look}
@@ -45,10 +46,6 @@ begins b t = record {
 -- the end of the transaction that t runs
 abbrev pub ends : Book → ℕ → Book
 ends b t = record { origin = b .origin; lines = b .lines; stable = b .stable; begun = b .begun; running = put (b .running) t 0; known = put (b .known) t (λ o. false); stage = b .stage }
-
--- 'the references other than 0 become known': x is one of object o's
-abbrev pub refersTo : List ℕ → ℕ → ℕ → Bool
-refersTo a o x = not (eqb x 0) && any (λ f. isRef a o f && eqb (wordOf a o f) x) 8
 
 -- the slots of page p that a pass step cleared: set in the received map before it and not after it
 unfoldable pub clearedSlots : List ℕ → List ℕ → ℕ → ℕ

@@ -8,7 +8,8 @@ use Rattle.pages.specs.Objects.{wordOf}
 use Rattle.records.specs.Records.{createOf, setOf}
 use Rattle.calls.specs.Calls.{Call, begin, commit, abort, lockRead, lockWrite, read, create, setWord, flush, force, store, empty, pass, step, reopen, restep, look}
 use Rattle.book.specs.Books.{Book, storing, fullPages}
-use Rattle.book.specs.Feeding.{fed, adds, refersTo, stepped}
+use Rattle.book.specs.Feeding.{fed, adds, stepped}
+use Rattle.reach.specs.Reaching.{refersTo}
 use Rattle.book_laws.specs.Keeping.{BookInv, Expects}
 use Rattle.book_laws.proofs.Invariant.{adds-inv, sweeps-inv, learn-inv, force-inv, stage-inv, begin-inv, stop-inv}
 use Rattle.book_laws.proofs.Finishing.{commit-inv, abort-inv}

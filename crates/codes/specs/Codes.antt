@@ -3,7 +3,7 @@ use Prim.Native.Nat.{ℕ, _+_, _*_, _≤_}
 use native.Mathlib.Omega.{arith}
 use mathlib.Core.Path.{_≡_, ap, _∙_}
 use Rattle.areas.specs.declared.Refusal.{Refusal}
-use Rattle.areas.specs.declared.Refusal.the-variants.{Malformed, NotOpen, OutOfRange, WrongState, NotLocked, Held, Unknown, Occupied, Differs, Unflushed, LogFull, Unstable, InUse, Unsound}
+use Rattle.areas.specs.declared.Refusal.the-variants.{Malformed, NotOpen, OutOfRange, WrongState, NotLocked, Held, Unknown, Occupied, Differs, Unflushed, LogFull, Unstable, InUse, Unsound, Free}
 use Rattle.areas.specs.declared.Answer.{Answer}
 use Rattle.areas.specs.declared.Answer.the-variants.{Done, Refused}
 use Rattle.areas.specs.Answers.{numberOf, answerOf, valueOf}
@@ -13,7 +13,8 @@ use Rattle.areas.specs.Areas.{Areas, Out}
 abbrev pub coded : Answer → ℕ
 coded a = 4294967296 * answerOf a + valueOf a
 
-number-small : (x : Refusal) → numberOf x ≤ 14
+-- document 02's last number
+number-small : (x : Refusal) → numberOf x ≤ 24
 number-small Malformed = omega arith
 number-small NotOpen = omega arith
 number-small OutOfRange = omega arith
@@ -28,8 +29,9 @@ number-small LogFull = omega arith
 number-small Unstable = omega arith
 number-small InUse = omega arith
 number-small Unsound = omega arith
+number-small Free = omega arith
 
-pub answer-small : (a : Answer) → answerOf a ≤ 14
+pub answer-small : (a : Answer) → answerOf a ≤ 24
 answer-small (Done v) = omega arith
 answer-small (Refused x) = number-small x
 

@@ -14,12 +14,14 @@ use Rattle.records.specs.Naming.{lastNaming}
 use Rattle.records.specs.Order.{openIn, logSound}
 use Rattle.records.specs.Recovery.{redone, undoneIn, recovered, recoverable}
 use Rattle.records.specs.Soundness.{wordSound, recordSound, recordsSound}
+use Rattle.reach.specs.Search.{lastOf, found, passing, extended, followed, searched, chainTo}
 use Rattle.areas.specs.Answers.{verdict}
 use Rattle.areas.specs.Areas.{appended}
 use Rattle.areas.specs.Entry.{wellFormed, called}
 use Rattle.areas.specs.Ranges.{lengthsFit, rowsInRange, workInRange, countsInRange, inRange}
 use Rattle.areas.specs.Tables.{greyed}
 use Rattle.calls.specs.Calls.{perform}
+use Rattle.calls.specs.Chains.{chainTests, chainLook, callChain, chainAfter}
 use Rattle.calls.specs.Formatting.{formatted, formatTests, callFormat, cut}
 use Rattle.calls.specs.Locks.{lockReadTests, readLocked, callLockRead, lockWriteTests, writeLocked, callLockWrite}
 use Rattle.calls.specs.Looks.{callLook}
@@ -32,5 +34,5 @@ use Rattle.calls.specs.Transactions.{beginTests, begun, callBegin, endedTables,
 
 -- what its line names opens with it; its value is of no use
 unfoldable pub calls : ℕ
-unfolding withBit withoutBit mapOf slotsSet over fill copied upTo same all any count sum lowest isRefAt cleared takenSlot freedSlot releasedIn formattedPages refsSound slotZero freeZero pageSound areaSound tabulate rowsOf withRows changesIn changesLeft reserved effect undone undoing lastNaming openIn logSound redone undoneIn recovered recoverable wordSound recordSound recordsSound verdict appended wellFormed called lengthsFit rowsInRange workInRange countsInRange inRange greyed perform formatted formatTests callFormat cut lockReadTests readLocked callLockRead lockWriteTests writeLocked callLockWrite callLook readTests learned callRead bufferAfter createTests created callCreate setTests pruned wordSet callSet flushTests flushed callFlush passTests unflagged passStarted callPass lowestGrey targetsGreyed scanned marked sweepMap freedMap advanced sweepTests sweptPage swept stepTests callStep reopenTests reopened callReopen restepTests pageStored reopeningOver callRestep roomBeyond forceTests callForce storeTests callStore emptyTests callEmpty beginTests begun callBegin endedTables allFlushed commitTests committed callCommit rolledBack restored abortTests aborted callAbort
+unfolding withBit withoutBit mapOf slotsSet over fill copied upTo same all any count sum lowest isRefAt cleared takenSlot freedSlot releasedIn formattedPages refsSound slotZero freeZero pageSound areaSound tabulate rowsOf withRows changesIn changesLeft reserved effect undone undoing lastNaming openIn logSound redone undoneIn recovered recoverable wordSound recordSound recordsSound lastOf found passing extended followed searched chainTo verdict appended wellFormed called lengthsFit rowsInRange workInRange countsInRange inRange greyed perform chainTests chainLook callChain chainAfter formatted formatTests callFormat cut lockReadTests readLocked callLockRead lockWriteTests writeLocked callLockWrite callLook readTests learned callRead bufferAfter createTests created callCreate setTests pruned wordSet callSet flushTests flushed callFlush passTests unflagged passStarted callPass lowestGrey targetsGreyed scanned marked sweepMap freedMap advanced sweepTests sweptPage swept stepTests callStep reopenTests reopened callReopen restepTests pageStored reopeningOver callRestep roomBeyond forceTests callForce storeTests callStore emptyTests callEmpty beginTests begun callBegin endedTables allFlushed commitTests committed callCommit rolledBack restored abortTests aborted callAbort
 calls = 0

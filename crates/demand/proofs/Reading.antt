@@ -19,7 +19,8 @@ use Rattle.acceptance.specs.Entered.{Open, opened}
 use Rattle.acceptance.specs.Objects as Accepted
 use Rattle.acceptance.specs.Objects.{read-outcome}
 use Rattle.book.specs.Books.{Book, runs}
-use Rattle.book.specs.Feeding.{fed, learns, refersTo}
+use Rattle.book.specs.Feeding.{fed, learns}
+use Rattle.reach.specs.Reaching.{refersTo}
 use Rattle.collector.specs.Bits.{or-l, or-r, and-intro}
 use Rattle.collector.specs.Objects as Objects
 use Rattle.collector.specs.Objects.{Obj, points}

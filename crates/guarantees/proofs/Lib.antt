@@ -10,3 +10,5 @@ pub mod Disks
 pub mod Refusals
 pub mod Stages
 pub mod Held
+pub mod Chains
+pub mod Committed

@@ -6,3 +6,4 @@ pub mod Points
 pub mod Refusals
 pub mod Stages
 pub mod Held
+pub mod Chains

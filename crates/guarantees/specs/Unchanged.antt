@@ -1,4 +1,4 @@
--- Demand 1: 'on refusal changes nothing'. Of every call on every lent state, of format, and of a read's buffer. Assumes nothing.
+-- Demand 1: 'on refusal changes nothing'. Of every call on every lent state, of format, and of the buffers that a read and a chain fill. Assumes nothing.
 use Prim.Native.Nat.{ℕ}
 use mathlib.Core.Path.{_≡_}
 use mathlib.Core.Bool.{false}
@@ -7,9 +7,11 @@ use Rattle.areas.specs.Answers.{accepted}
 use Rattle.areas.specs.Areas.{Areas}
 use Rattle.calls.specs.Formatting.{callFormat}
 use Rattle.calls.specs.Objects.{callRead, bufferAfter}
+use Rattle.calls.specs.Chains.{callChain, chainAfter}
 use Rattle.calls.specs.Calls.{Call, perform}
 
 pub record RefusalsChangeNothing : Type 0 where
   pub calls : (s : Areas) (c : Call) → accepted (perform s c .answer) ≡ false → perform s c .after ≡ s
   pub format : (s : Areas) → accepted (callFormat s .answer) ≡ false → callFormat s .after ≡ s
   pub buffer : (s : Areas) (t o : ℕ) (b : List ℕ) → accepted (callRead s t o b .answer) ≡ false → bufferAfter s t o b ≡ b
+  pub chain : (s : Areas) (b : List ℕ) (o : ℕ) → accepted (callChain s b o .answer) ≡ false → chainAfter s b o ≡ b

@@ -8,6 +8,7 @@ ghost use Rattle.calls.specs.Objects.{callRead, callCreate, callSet, callFlush,
 ghost use Rattle.calls.specs.Stability.{callForce, callStore, callEmpty};
 ghost use Rattle.calls.specs.Pass.{callPass, callStep};
 ghost use Rattle.calls.specs.Reopening.{callReopen, callRestep};
+ghost use Rattle.calls.specs.Chains.{callChain, chainAfter};
 ghost use Rattle.codes.specs.Codes.{coded};
 use codes::code;
 
@@ -321,5 +322,25 @@ pub extern "C" fn kophdaen_reopen_step(
     ensures { λ _. ⌜ areas (now (stored .exit)) (now (copies .exit)) (now (received .exit)) (now (log .exit)) (now (counts .exit)) (now (work .exit)) ≡ callRestep (areas (now (stored .entry)) (now (copies .entry)) (now (received .entry)) (now (log .entry)) (now (counts .entry)) (now (work .entry))) .after ⌝ }
 {
     let a = reopening_calls::restep(stored, copies, received, log, counts, work);
+    code(a)
+}
+
+// Puts the chain of references that keeps object o in the copies into the buffer.
+#[no_mangle]
+pub extern "C" fn kophdaen_chain(
+    stored: &[u32],
+    copies: &[u32],
+    received: &[u32],
+    log: &[u32],
+    counts: &[u32],
+    work: &[u32],
+    chain: &mut [u32],
+    o: u32,
+) -> u64
+    ensures { λ r. ⌜ r ≡ coded (callChain (areas (now (stored .entry)) (now (copies .entry)) (now (received .entry)) (now (log .entry)) (now (counts .entry)) (now (work .entry))) (now (chain .entry)) o .answer) ⌝ }
+    ensures { λ _. ⌜ areas (now (stored .exit)) (now (copies .exit)) (now (received .exit)) (now (log .exit)) (now (counts .exit)) (now (work .exit)) ≡ callChain (areas (now (stored .entry)) (now (copies .entry)) (now (received .entry)) (now (log .entry)) (now (counts .entry)) (now (work .entry))) (now (chain .entry)) o .after ⌝ }
+    ensures { λ _. ⌜ now (chain .exit) ≡ chainAfter (areas (now (stored .entry)) (now (copies .entry)) (now (received .entry)) (now (log .entry)) (now (counts .entry)) (now (work .entry))) (now (chain .entry)) o ⌝ }
+{
+    let a = look_calls::chain(stored, copies, received, log, counts, work, chain, o);
     code(a)
 }

@@ -1,9 +1,12 @@
 -- A flush: what its tests give the code, and its outcome. Assumes nothing.
 use Prim.Native.Nat.{ℕ, _*_, _<_, _≤_}
 use mathlib.Core.Path.{_≡_}
+use mathlib.Core.Bool.{true}
 use mathlib.Core.List.{List, []}
 use lib.ListN.{length}
+use lib.Dec.{eqb}
 use native.Mathlib.Omega.{arith}
+use borrow.Author.Tests.{eqb-true}
 use Rattle.pages.specs.Geometry.{pageWords}
 use Rattle.pages.specs.Objects.{copiedPage}
 use Rattle.records.specs.Records.{txnCount}
@@ -16,6 +19,10 @@ use Rattle.areas.specs.Tables.{lose}
 use Rattle.calls.specs.Objects.{flushTests, flushed}
 use Rattle.acceptance.specs.Lengths.{Sized}
 use Rattle.acceptance.specs.Objects.{flush-facts}
+
+-- an image of the right length
+pub own-fits : (b : List ℕ) (k : ℕ) → eqb (length b) k ≡ true → k ≤ length b
+own-fits b k h = let e = eqb-true (length b) k h in omega arith
 
 pub flush-ready : (s c r g k w image : List ℕ) (n t p : ℕ) → Sized (areas s c r g k w) n →
     verdict (flushTests (areas [] [] r [] [] w) n t p image) ≡ Accept →

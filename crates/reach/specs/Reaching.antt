@@ -2,8 +2,10 @@
 use Prim.Native.Nat.{ℕ, _<_, _≤_}
 use native.Mathlib.Omega.{arith}
 use mathlib.Core.Path.{_≡_}
-use mathlib.Core.Bool.{true}
+use mathlib.Core.Bool.{Bool, true, not, _&&_}
 use mathlib.Core.List.{List}
+use lib.Dec.{eqb}
+use Rattle.words.specs.Tests.{any}
 use Rattle.pages.specs.Geometry.{isRef, slotWords}
 use Rattle.pages.specs.Objects.{occupied, wordOf}
 
@@ -13,6 +15,10 @@ pub record Refers (a : List ℕ) (o f x : ℕ) : Type 0 where
   pub reference : isRef a o f ≡ true
   pub target : wordOf a o f ≡ x
   pub some : x ≡ 0 → ⊥
+
+-- the same as a test: 'the references other than 0', x is one of object o's
+abbrev pub refersTo : List ℕ → ℕ → ℕ → Bool
+refersTo a o x = not (eqb x 0) && any (λ f. isRef a o f && eqb (wordOf a o f) x) slotWords
 
 -- 'A state reaches the root and what a reached object's references name.'
 pub data Reached (a : List ℕ) : ℕ → Type 0 where

@@ -11,7 +11,7 @@ use borrow.Author.Tests.{ne-eqb}
 use Rattle.words.specs.Tests.{clash}
 use Rattle.pages.specs.Geometry.{objectCount}
 use Rattle.reach_walk.specs.Walk.{Walk, walk, mark, Marked, Consistent, Grown}
-use Rattle.reach_walk.proofs.Counts.{count-none, count-most, count-less, count-more}
+use Rattle.words.specs.Counts.{count-none, count-most, count-less, count-more}
 
 -- nothing is marked at the start
 zeros : (k i : ℕ) → _≡_ {A = ℕ} (getD (replicate k 0) i 0) 0

@@ -1,5 +1,4 @@
 -- Laws of the walk, and that its answer is settled.
-pub mod Counts
 pub mod Range
 pub mod Entering
 pub mod Following

@@ -12,14 +12,12 @@ ghost use Rattle.reach_walk.specs.Walk.{walk, Marked, Consistent, PagesO
 use areas::Answer;
 use areas::Refusal;
 use page_ops::change;
+use pages::MAX_OBJECTS;
 use pages::MAX_PAGES;
 use pages::PAGE_WORDS;
 use pages::ROOT;
 use pages::SLOT_WORDS;
 use pages::SLOTS;
-
-// The objects of the largest store: a mark and a place in the queue for each.
-pub const MAX_OBJECTS: usize = SLOTS * MAX_PAGES;
 
 // What a step of the walk comes to: where the queue ends now, or that a reached object is not there.
 enum Step {

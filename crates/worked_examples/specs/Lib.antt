@@ -1,3 +1,4 @@
--- The examples that document 01 marks to be proved.
+-- The examples that document 01 marks to be proved, and examples of what document 02 adds.
 pub mod Table
 pub mod Numbers
+pub mod Chains

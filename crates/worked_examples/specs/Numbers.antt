@@ -1,4 +1,5 @@
--- Document 01, 'Refusal table': the number that stands beside each test of a call is the number of its refusal. Assumes nothing.
+-- Document 01, 'Refusal table', with the refusals that document 02 adds: the number that stands beside each test of a call is the number
+-- of its refusal. Assumes nothing.
 use Prim.Native.Nat.{ℕ}
 use mathlib.Core.Path.{_≡_, refl}
 use mathlib.Core.Bool.{Bool, true, _&&_}
@@ -13,6 +14,7 @@ use Rattle.calls.specs.Objects.{readTests, createTests, setTests, flushTests}
 use Rattle.calls.specs.Stability.{forceTests, storeTests, emptyTests}
 use Rattle.calls.specs.Pass.{passTests, sweepTests, stepTests}
 use Rattle.calls.specs.Reopening.{reopenTests, restepTests}
+use Rattle.calls.specs.Chains.{chainTests}
 
 -- the tests of every call, on any areas and with any arguments
 abbrev pub everyCall : Areas → ℕ → ℕ → ℕ → ℕ → ℕ → ℕ → List ℕ → List (List Test)
@@ -36,6 +38,7 @@ everyCall s n t p o f v image =
     ∷ sweepTests s v
     ∷ reopenTests s
     ∷ restepTests s
+    ∷ chainTests s n o
     ∷ []
 
 -- each of several lists of tests has its refusals' numbers
@@ -44,5 +47,5 @@ allNumbered [] = true
 allNumbered (ts ∷ rest) = numbered ts && allNumbered rest
 
 pub numbers-right : (s : Areas) (n t p o f v : ℕ) (image : List ℕ) → allNumbered (everyCall s n t p o f v image) ≡ true
-unfolding allNumbered numbered formatTests beginTests commitTests abortTests lockReadTests lockWriteTests readTests createTests setTests flushTests forceTests storeTests emptyTests passTests stepTests sweepTests reopenTests restepTests
+unfolding allNumbered numbered formatTests beginTests commitTests abortTests lockReadTests lockWriteTests readTests createTests setTests flushTests forceTests storeTests emptyTests passTests stepTests sweepTests reopenTests restepTests chainTests
 numbers-right s n t p o f v image = refl

@@ -6,13 +6,14 @@ use kophdaen::Store;
 use model::layout::*;
 
 use crate::random::Random;
+use crate::search::last_found;
 use crate::states::*;
 
 /// No kind of record, and a bit above every map and mask.
 pub const NO_KIND: u32 = 8;
 pub const HIGH_BIT: u32 = 1 << 16;
 
-/// Which words the floor adds up.
+/// What the floor does: which words it adds up, or a search.
 #[derive(Clone, Copy, PartialEq)]
 pub enum Floor {
     /// All six areas.
@@ -21,6 +22,8 @@ pub enum Floor {
     Stable,
     /// None: the call looks at lengths alone.
     Nothing,
+    /// No sum, but a plain search of the copies for this object.
+    Search(u32),
 }
 
 pub struct Case {
@@ -95,6 +98,7 @@ pub fn cases(size: Size, fill: Fill) -> Vec<Case> {
     stability(&base, &mut list);
     passes(&base, &mut list);
     reopening(&base, &mut list);
+    chains(&base, &mut list);
     list
 }
 
@@ -243,4 +247,11 @@ fn reopening(base: &Base, list: &mut Vec<Case>) {
     let mut open = cut;
     accept(open.reopen());
     add_three(list, "reopen_step", (&open, Call::ReopenStep), 4, (&base.quiet, Call::ReopenStep));
+}
+
+/// Of the object that the search finds last; refused where the slot is free.
+fn chains(base: &Base, list: &mut Vec<Case>) {
+    let state = &base.flushed;
+    let last = Call::Chain(last_found(&state.copies, true));
+    add_three(list, "chain", (state, last), 15, (state, Call::Chain(free_object(state))));
 }

@@ -6,8 +6,8 @@ use crate::cases::{cases, Case};
 use crate::states::{Fill, Size};
 use crate::timing::{measure, Times};
 
-/// Calls by name and answer: the check alone, changes, ends, stores, a pass, a reopening.
-const CALLS: [(&str, u32); 12] = [
+/// Calls by name and answer: the check alone, changes, ends, stores, a pass, a reopening, a chain.
+const CALLS: [(&str, u32); 13] = [
     ("lock_read", 4),
     ("begin", 0),
     ("set_word", 0),
@@ -20,6 +20,7 @@ const CALLS: [(&str, u32); 12] = [
     ("pass_step (mark)", 0),
     ("pass_step (turn)", 0),
     ("reopen", 0),
+    ("chain", 0),
 ];
 
 pub struct Growth {

@@ -14,6 +14,7 @@ pub fn losses(results: &Results) -> String {
         model_losses(results, form, of, &mut list);
     }
     floor_losses(results, &mut list);
+    chain_losses(results, &mut list);
     if list.is_empty() {
         return "Nowhere in this run.\n".to_string();
     }
@@ -78,6 +79,16 @@ fn floor_losses(results: &Results, list: &mut Vec<String>) {
             let (place, by) = (name(*size), ratio(t.lent, t.floor));
             list.push(format!("The check of refusal 1, {place}, {} log: {by} times the floor.", fill.name()));
         }
+    }
+}
+
+/// Held chains against the plain search, where they take more than half as long again.
+fn chain_losses(results: &Results, list: &mut Vec<String>) {
+    for chain in &results.chains {
+        let time = chain.times.held.filter(|&held| held > 1.5 * chain.times.floor);
+        list.extend(time.map(|held| {
+            format!("`chain`, held, {}: {} times a plain search.", chain.graph, ratio(held, chain.times.floor))
+        }));
     }
 }
 

@@ -1,11 +1,12 @@
-//! Times the proved library, lent and held, the model, a plain sum and SQLite in one run, and writes
-//! docs/BENCHMARKS.md.
+//! Times the proved library, lent and held, the model, a plain sum, a plain search and SQLite in one run, and
+//! writes docs/BENCHMARKS.md.
 //!
 //!   benchmark DIRECTORY FILE
 //!
 //! DIRECTORY is for the files that the workload writes; FILE becomes the page. tests/benchmark calls it.
 
 mod cases;
+mod chains;
 mod damage;
 mod disk;
 mod growth;
@@ -15,6 +16,7 @@ mod random;
 mod reads;
 mod report;
 mod runs;
+mod search;
 mod sqlite;
 mod starts;
 mod states;
@@ -53,6 +55,7 @@ fn main() {
         records: (growth::by_records(), growth::grow(&growth::by_records(), clock, brief)),
         workloads: PLANS.map(|plan| runs::workload(plan, 3, directory, clock)).into(),
         starts: starts::starts(LARGE, clock, brief),
+        chains: chains::chains(LARGE, clock, 5 * brief),
         machine: machine::describe(disk::sync_time(directory)),
     };
     std::fs::write(file, report::page(&results)).expect("the page is written");

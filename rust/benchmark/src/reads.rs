@@ -4,7 +4,7 @@ use crate::report::{duration, head, line, Table};
 
 /// By the name of its case: what the call looks at, what it writes, and which sentences of the definition need
 /// it. A record has 6 words, of which the walk for R looks at two, kind and transaction.
-const CALLS: [(&str, &str, &str, &str); 17] = [
+const CALLS: [(&str, &str, &str, &str); 18] = [
     (
         "begin",
         "3 words; 2 × R; 16 × P masks",
@@ -88,6 +88,13 @@ const CALLS: [(&str, &str, &str, &str); 17] = [
         "2 words; 129",
         "129; 1 word",
         "4: the reopening runs. The copy becomes the stored page; after the last the counts and the reopening are set",
+    ),
+    (
+        "chain",
+        "2 words; the 4 references of each object that the search takes until it has found this one",
+        "the buffer's 4096",
+        "2; 15: the copies' map. Of the chains with the fewest links the one with the lower object at the first \
+         difference: the search finds objects in that order of their chains",
     ),
 ];
 

@@ -3,6 +3,7 @@
 use std::fmt::Write;
 
 use crate::cases::Floor;
+use crate::chains::Chain;
 use crate::growth::Growth;
 use crate::losses::losses;
 use crate::reads::reads;
@@ -35,6 +36,7 @@ pub struct Results {
     pub records: (Vec<Size>, Vec<Growth>),
     pub workloads: Vec<Workload>,
     pub starts: Vec<Start>,
+    pub chains: Vec<Chain>,
 }
 
 pub fn page(results: &Results) -> String {
@@ -46,6 +48,7 @@ pub fn page(results: &Results) -> String {
     page += include_str!("../page/reads.md");
     page += &reads(&results.tables[0]);
     page += &starts(&results.starts);
+    page += &chains(&results.chains);
     page += include_str!("../page/check.md");
     page += &check(results);
     page += include_str!("../page/calls.md");
@@ -121,6 +124,19 @@ fn starts(list: &[Start]) -> String {
     page
 }
 
+fn chains(list: &[Chain]) -> String {
+    let mut page = include_str!("../page/chain.md").to_string();
+    let heads = ["graph", "objects in the chain", "held", "plain", "held / plain", "lent", "model"];
+    head(&mut page, &heads.map(String::from));
+    for Chain { graph, objects, times: t } in list {
+        let named = [graph.to_string(), objects.to_string()];
+        let ratio = some(t.held, |held| ratio(held, t.floor));
+        let cells = [some(t.held, micros), micros(t.floor), ratio, micros(t.lent), micros(t.model)];
+        line(&mut page, &[&named[..], &cells[..]].concat());
+    }
+    page
+}
+
 fn check(results: &Results) -> String {
     let mut page = String::new();
     let heads = ["size", "log", "lent", "held", "model", "floor", "lent / floor", "lent / model"];
@@ -158,7 +174,7 @@ fn calls_at(table: &Table, i: usize, fill: Fill) -> String {
         let t = row.times[i];
         let floor = match row.floor {
             Floor::All => all,
-            Floor::Stable => t.floor,
+            Floor::Stable | Floor::Search(_) => t.floor,
             Floor::Nothing => 0.0,
         };
         let cells = [

@@ -86,13 +86,13 @@ pub fn crowded(pages: usize) -> Vec<u32> {
 }
 
 /// All but the first, the root, change places.
-fn shuffle(tree: &mut [u32], random: &mut Random) {
+pub fn shuffle(tree: &mut [u32], random: &mut Random) {
     for i in (2..tree.len()).rev() {
         tree.swap(i, 1 + random.below(i));
     }
 }
 
-fn occupy(area: &mut [u32], object: u32, random: &mut Random) {
+pub fn occupy(area: &mut [u32], object: u32, random: &mut Random) {
     area[map_at(page_of(object))] |= 1 << (slot_of(object));
     for field in 4..8 {
         area[word_at(object, field)] = random.word();

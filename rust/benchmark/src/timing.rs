@@ -5,11 +5,12 @@ use std::hint::black_box;
 use std::time::{Duration, Instant};
 
 use calls::{Lent, Server};
-use kophdaen::{Held, Store, OBJECT_WORDS};
+use kophdaen::{Held, Store, CHAIN_WORDS};
 use model::layout::{Areas, AREAS, RECORD_WORDS, STABLE_COUNT};
 use model::Model;
 
 use crate::cases::{Case, Floor};
+use crate::search::search;
 
 /// Nanoseconds, each the least of its samples.
 #[derive(Clone, Copy)]
@@ -51,7 +52,7 @@ fn sample<S: Server>(case: &Case, mut areas: Areas, least: &mut f64) -> Areas {
     restore(&mut areas, &case.areas);
     // SAFETY: held only where the case has a held form.
     let mut side = unsafe { S::over(areas) };
-    let mut buffer = [0; OBJECT_WORDS];
+    let mut buffer = vec![0; case.call.buffer_words()];
     let started = Instant::now();
     let lent = Lent { buffer: black_box(&mut buffer), image: black_box(&case.image) };
     black_box(side.perform(black_box(case.call), lent));
@@ -66,9 +67,17 @@ fn floor(case: &Case, areas: &mut Areas) -> f64 {
         Floor::All => AREAS.map(|area| &areas.of(area)[..]),
         Floor::Stable => [&areas.stored, &areas.log[..stable], &areas.counts[STABLE_COUNT..], &[], &[], &[]],
         Floor::Nothing => [&[]; 6],
+        Floor::Search(object) => return searched(&areas.copies, object),
     };
     let started = Instant::now();
     black_box(sum(black_box(lent)));
+    started.elapsed().as_nanos() as f64
+}
+
+fn searched(copies: &[u32], object: u32) -> f64 {
+    let mut buffer = vec![0; CHAIN_WORDS];
+    let started = Instant::now();
+    black_box(search(black_box(copies), black_box(&mut buffer), black_box(object)));
     started.elapsed().as_nanos() as f64
 }
 
@@ -88,10 +97,10 @@ fn check_same(case: &Case) {
 }
 
 /// What a server makes of the case: answer, buffer and areas.
-fn made<S: Server>(case: &Case) -> (u64, [u32; OBJECT_WORDS], Areas) {
+fn made<S: Server>(case: &Case) -> (u64, Vec<u32>, Areas) {
     // SAFETY: held only where the case has a held form.
     let mut side = unsafe { S::over(case.areas.clone()) };
-    let mut buffer = [0; OBJECT_WORDS];
+    let mut buffer = vec![1; case.call.buffer_words()];
     let answer = side.perform(case.call, Lent { buffer: &mut buffer, image: &case.image });
     (answer, buffer, side.back())
 }

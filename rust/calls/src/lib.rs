@@ -1,4 +1,4 @@
-//! Document 01's calls as values, and how the proved library, lent or holding its areas, and the model make
+//! The server's calls as values, and how the proved library, lent or holding its areas, and the model make
 //! them.
 //!
 //! A new call is one line of the table in table.rs, beside the methods that each has for it.
@@ -6,16 +6,28 @@
 mod sides;
 mod table;
 
+use kophdaen::{CHAIN_WORDS, OBJECT_WORDS};
 pub use sides::{Server, Side};
 pub use table::{Call, NAMES};
 
-/// What a call may be lent beside the areas: read takes the buffer, flush the image.
+/// What a call may be lent beside the areas: read and chain take the buffer, flush the image.
 pub struct Lent<'a> {
     pub buffer: &'a mut [u32],
     pub image: &'a [u32],
 }
 
-/// A call as the bench program writes it.
+impl Call {
+    /// The words that its buffer must have; 0 where it takes none.
+    pub fn buffer_words(self) -> usize {
+        match self {
+            Call::Read(..) => OBJECT_WORDS,
+            Call::Chain(..) => CHAIN_WORDS,
+            _ => 0,
+        }
+    }
+}
+
+/// A call as the bench program writes it, or would write it.
 impl std::fmt::Display for Call {
     fn fmt(&self, out: &mut std::fmt::Formatter) -> std::fmt::Result {
         write!(out, "{}", self.name())?;

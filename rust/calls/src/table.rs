@@ -5,8 +5,9 @@ use model::{coded, Model};
 
 use crate::Lent;
 
-/// A line has the variant with its numbers, the name that the bench program gives the call, and the method
-/// that both sides have for it, with what it is lent before the numbers; then `lent` if it has no held form.
+/// A line has the variant with its numbers, the call's name, and the method that both sides have for it, with
+/// what it is lent before the numbers; then `lent` if it has no held form. The name is the bench program's, but
+/// for chain, of which that has no line.
 macro_rules! calls {
     ($( $call:ident $(($($number:ident),+))?, $name:literal, $method:ident $([$lent:ident])? $(, $form:ident)?; )*) => {
         #[derive(Clone, Copy, Debug, PartialEq, Eq)]
@@ -86,4 +87,5 @@ calls! {
     PassStep, "step", pass_step;
     Reopen, "reopen", reopen, lent;
     ReopenStep, "restep", reopen_step;
+    Chain(object), "chain", chain[buffer];
 }

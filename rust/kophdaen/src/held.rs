@@ -1,7 +1,7 @@
 use std::fmt;
 
 use crate::lend::*;
-use crate::{Answer, Store, OBJECT_WORDS, PAGE_WORDS, RECORD_WORDS};
+use crate::{Answer, Store, CHAIN_WORDS, OBJECT_WORDS, PAGE_WORDS, RECORD_WORDS};
 
 /// Why a store is not held.
 #[derive(Clone, Copy, PartialEq, Eq, Debug)]
@@ -65,7 +65,9 @@ impl Held {
     pub fn open(stored: &[u32], stable: &[u32], records: usize) -> Result<Held, NotHeld> {
         let pages = stored.len() / PAGE_WORDS;
         let mut store = Store::new(pages, records);
-        if stored.len() != store.stored.len() || stable.len() > store.log.len() || stable.len() % RECORD_WORDS != 0
+        if stored.len() != store.stored.len()
+            || stable.len() > store.log.len()
+            || !stable.len().is_multiple_of(RECORD_WORDS)
         {
             return Err(NotHeld::Lengths);
         }
@@ -192,5 +194,14 @@ impl Held {
 
     pub fn reopen_step(&mut self) -> Answer {
         lend!(self.store, kophdaen_held_reopen_step)
+    }
+
+    /// Puts the shortest chain of references to the object into `chain`, of 4096 words. One of
+    /// another length goes to the lent call, which refuses it with 1.
+    pub fn chain(&mut self, chain: &mut [u32], object: u32) -> Answer {
+        if chain.len() != CHAIN_WORDS {
+            return self.store.chain(chain, object);
+        }
+        lend!(self.store, kophdaen_held_chain, chain.as_mut_ptr(), chain.len(), object)
     }
 }

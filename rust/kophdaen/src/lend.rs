@@ -38,6 +38,7 @@ declare! {
     kophdaen_pass_step();
     kophdaen_reopen();
     kophdaen_reopen_step();
+    kophdaen_chain(chain: *mut u32, chain_words: usize, object: u32);
 
     kophdaen_held_begin(t: u32);
     kophdaen_held_commit(t: u32);
@@ -54,6 +55,7 @@ declare! {
     kophdaen_held_start_pass();
     kophdaen_held_pass_step();
     kophdaen_held_reopen_step();
+    kophdaen_held_chain(chain: *mut u32, chain_words: usize, object: u32);
 }
 
 /// Lends the six areas to a C function.

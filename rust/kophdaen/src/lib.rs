@@ -1,6 +1,6 @@
 //! A safe wrapper over the proved page server and collector.
 //!
-//! A [`Store`] owns the six lent areas (docs/LAYOUT.md) and offers every call of document 01 on
+//! A [`Store`] owns the six lent areas (docs/LAYOUT.md) and offers every call of the server on
 //! them. The library's promises settle the answer and every word for all inputs, so the areas may
 //! be looked at and written at will: no words in them are unsafe to lend.
 //!
@@ -32,6 +32,8 @@ impl Answer {
 
 pub const PAGE_WORDS: usize = 129;
 pub const OBJECT_WORDS: usize = 8;
+/// Words of a chain's buffer: the objects of the largest store, at every size.
+pub const CHAIN_WORDS: usize = 4096;
 pub const RECORD_WORDS: usize = 6;
 pub const COUNTS_WORDS: usize = 2;
 

@@ -95,6 +95,12 @@ impl Store {
         lend!(self, kophdaen_reopen_step)
     }
 
+    /// Puts the shortest chain of references in the page copies, from the root to the object, into
+    /// `chain`: root first, then zeros. A buffer that has not 4096 words is refused with 1.
+    pub fn chain(&mut self, chain: &mut [u32], object: u32) -> Answer {
+        lend!(self, kophdaen_chain, chain.as_mut_ptr(), chain.len(), object)
+    }
+
     /// A power cut: "keeps the stored pages, the stable count and that many records; all else
     /// comes back as zeros". Where the stable count is above L the whole log is kept.
     pub fn cut(&mut self) {

@@ -1,9 +1,11 @@
-//! Document 01's page server and collector over the same lent words as the proved library.
+//! Document 01's page server and collector, and document 02's L1, over the same lent words as the
+//! proved library.
 //!
-//! Written from document 01, docs/LAYOUT.md and docs/DECISIONS.md, not from the library's source.
+//! Written from documents 01 and 02, docs/LAYOUT.md and docs/DECISIONS.md, not from the library's source.
 //! Each call tests its refusals in the order of the refusal table, then acts; `?` leaves the call
 //! at the first refusal. The fault switch is the tests' own: with [`Fault::None`] this is the model.
 
+mod chain;
 pub mod faults;
 pub mod layout;
 pub mod recover;

@@ -48,7 +48,7 @@ impl Image {
 #[derive(Clone, Debug, PartialEq)]
 pub enum Slice {
     Nothing,
-    /// Read's buffer, of so many words.
+    /// Read's or chain's buffer, of so many words.
     Buffer(usize),
     Image(Image),
 }
@@ -60,13 +60,13 @@ pub struct Request {
     pub slice: Slice,
 }
 
-/// With the buffer that a read takes, and the image that a flush takes.
+/// With the buffer that a read or a chain takes, and the image that a flush takes.
 impl From<Call> for Request {
     fn from(call: Call) -> Request {
-        let slice = match call {
-            Call::Read(..) => Slice::Buffer(OBJECT_WORDS),
-            Call::Flush(..) => Slice::Image(Image::Received),
-            _ => Slice::Nothing,
+        let slice = match (call, call.buffer_words()) {
+            (Call::Flush(..), _) => Slice::Image(Image::Received),
+            (_, 0) => Slice::Nothing,
+            (_, words) => Slice::Buffer(words),
         };
         Request { call, slice }
     }
@@ -75,6 +75,10 @@ impl From<Call> for Request {
 impl Request {
     pub fn read(t: u32, object: u32, words: usize) -> Request {
         Request { call: Call::Read(t, object), slice: Slice::Buffer(words) }
+    }
+
+    pub fn chain(object: u32, words: usize) -> Request {
+        Request { call: Call::Chain(object), slice: Slice::Buffer(words) }
     }
 
     pub fn flush(t: u32, page: u32, image: Image) -> Request {
@@ -103,7 +107,8 @@ impl fmt::Display for Request {
     fn fmt(&self, out: &mut fmt::Formatter) -> fmt::Result {
         write!(out, "{}", self.call)?;
         match &self.slice {
-            Slice::Nothing | Slice::Buffer(OBJECT_WORDS) | Slice::Image(Image::Received) => Ok(()),
+            Slice::Nothing | Slice::Image(Image::Received) => Ok(()),
+            Slice::Buffer(words) if *words == self.call.buffer_words() => Ok(()),
             Slice::Buffer(words) => write!(out, " (buffer of {words} words)"),
             Slice::Image(image) => write!(out, " (image {image:?})"),
         }
@@ -116,6 +121,8 @@ pub enum Filling {
     Noise,
     /// Every word random within its range, so that calls are taken in states that no calls lead to.
     Sound,
+    /// As `Sound`, with copies in which many chains of references lead from the root to an object.
+    Linked,
     /// Sound stored pages and a stable log in order, for reopening; the rest as `Noise`.
     Reopening,
     /// As `Reopening`, with one word of the log or the stored pages damaged.

@@ -1,41 +1,54 @@
 //! Document 01's fourteen examples of the refusal table, its bench input and its cases on L, each
-//! with the answers that the document gives.
+//! with the answers that the document gives; and the examples of chains.
 
 use calls::Call::*;
 use model::layout::*;
 
 use crate::actions::*;
+use crate::chains;
 use crate::run::*;
 use crate::sides::Kind;
 
-/// An action with its answer, number and value; 0,0 for a poke or a cut.
-type Step = (Action, u32, u32);
+/// An action with its answer, number and value (0,0 for a poke or a cut), and, where the example tells it, every word
+/// of the buffer after it.
+#[derive(Clone)]
+pub struct Step {
+    pub action: Action,
+    pub number: u32,
+    pub value: u32,
+    pub buffer: Option<Vec<u32>>,
+}
 
-struct Example {
-    name: &'static str,
-    list: List,
-    answers: Vec<(u32, u32)>,
+/// Steps from a formatted store on.
+pub struct Example {
+    pub name: &'static str,
+    pub pages: usize,
+    pub records: usize,
+    pub steps: Vec<Step>,
 }
 
 fn example(name: &'static str, records: usize, steps: &[Step]) -> Example {
-    let formatted = (Action::from(Format), 0, 0);
-    let (actions, answers) = std::iter::once(&formatted)
-        .chain(steps)
-        .map(|(action, number, value)| (action.clone(), (*number, *value)))
-        .unzip();
-    Example { name, list: List { pages: 4, records, actions }, answers }
+    Example { name, pages: 4, records, steps: steps.to_vec() }
 }
 
-fn ok(call: impl Into<Request>, value: u32) -> Step {
-    (Action::Call(call.into()), 0, value)
+fn step(action: Action, number: u32, value: u32) -> Step {
+    Step { action, number, value, buffer: None }
 }
 
-fn no(call: impl Into<Request>, number: u32) -> Step {
-    (Action::Call(call.into()), number, 0)
+pub fn ok(call: impl Into<Request>, value: u32) -> Step {
+    step(Action::Call(call.into()), 0, value)
 }
 
-fn poke(area: Area, index: usize, word: u32) -> Step {
-    (Action::Poke(area, index, word), 0, 0)
+pub fn no(call: impl Into<Request>, number: u32) -> Step {
+    step(Action::Call(call.into()), number, 0)
+}
+
+pub fn poke(area: Area, index: usize, word: u32) -> Step {
+    step(Action::Poke(area, index, word), 0, 0)
+}
+
+pub fn cut() -> Step {
+    step(Action::Cut, 0, 0)
 }
 
 /// After these two, transaction 0 may change page 0.
@@ -57,7 +70,7 @@ fn refusals() -> Vec<Example> {
     vec![
         example("1: image of 128 words", 64, &then([no(short, 1)])),
         example("2: begin,0 while reopening", 64, &[ok(Reopen, 0), no(Begin(0), 2)]),
-        example("2: begin,0 after a cut", 64, &[(Action::Cut, 0, 0), no(Begin(0), 2)]),
+        example("2: begin,0 after a cut", 64, &[cut(), no(Begin(0), 2)]),
         example("3: begin,16", 64, &[no(Begin(16), 3)]),
         example("4: commit,3 first", 64, &[no(Commit(3), 4)]),
         example("5: read,0,1 unlocked", 64, &[ok(Begin(0), 1), no(Read(0, 1), 5)]),
@@ -102,17 +115,27 @@ fn bench() -> Example {
     example("the bench input", 64, &steps)
 }
 
+/// Makes a step on both sides: what went wrong.
+fn made(pair: &mut Pair, Step { action, number, value, buffer }: &Step) -> Result<(), String> {
+    let answer = pair.step(action)?;
+    if answer != u64::from(*number) << 32 | u64::from(*value) {
+        return Err(format!("answers {},{}", answer >> 32, answer as u32));
+    }
+    match buffer {
+        Some(words) if *words != pair.buffer => Err("another buffer than the example's".to_string()),
+        _ => Ok(()),
+    }
+}
+
 /// Runs every example on both sides: how many calls, or what went wrong.
 pub fn run(left: Kind, right: Kind) -> Result<u64, String> {
     let mut calls = 0;
-    for Example { name, list, answers } in refusals().into_iter().chain(room()).chain([bench()]) {
-        let mut pair = Pair::new(left, right, list.pages, list.records);
-        for (action, (number, value)) in list.actions.iter().zip(answers) {
-            let answer = pair.step(action).map_err(|what| format!("{name}: {action}: {what}"))?;
-            calls += u64::from(action.call().is_some());
-            if answer != u64::from(number) << 32 | u64::from(value) {
-                return Err(format!("{name}: {action} answers {},{}", answer >> 32, answer as u32));
-            }
+    let examples = [refusals(), room(), vec![bench()], chains::examples()];
+    for Example { name, pages, records, steps } in examples.into_iter().flatten() {
+        let mut pair = Pair::new(left, right, pages, records);
+        for step in [ok(Format, 0)].iter().chain(&steps) {
+            made(&mut pair, step).map_err(|what| format!("{name}: {}: {what}", step.action))?;
+            calls += u64::from(step.action.call().is_some());
         }
     }
     Ok(calls)

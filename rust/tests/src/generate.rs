@@ -2,7 +2,7 @@
 //! the log is drained when it is full, passes and reopenings run to their end.
 
 use calls::Call;
-use kophdaen::OBJECT_WORDS;
+use kophdaen::{CHAIN_WORDS, OBJECT_WORDS};
 use model::layout::*;
 
 use crate::actions::*;
@@ -19,6 +19,8 @@ pub struct Style {
     pub wild: usize,
     /// Transactions that run side by side, about.
     pub crowd: usize,
+    /// Most calls create objects and link them, so that chains grow.
+    pub building: bool,
     /// The list begins with areas so filled, and again now and then.
     pub filling: Option<Filling>,
 }
@@ -31,6 +33,8 @@ pub struct Generator {
     restore: Option<(usize, Action)>,
     /// A call to be made so many times more.
     burst: (Call, usize),
+    /// The objects whose chains are still to be asked for.
+    asking: Vec<u32>,
     begun: bool,
 }
 
@@ -40,7 +44,8 @@ impl Generator {
         for _ in 0..random.between(0, 3) {
             hot.push(random.below(pages) as u32);
         }
-        Generator { random, style, hot, restore: None, burst: (Call::Force, 0), begun: false }
+        let burst = (Call::Force, 0);
+        Generator { random, style, hot, restore: None, burst, asking: Vec::new(), begun: false }
     }
 
     /// From a store that calls have led to: no first action that makes one.
@@ -52,7 +57,7 @@ impl Generator {
         if !self.begun {
             self.begun = true;
             return match self.style.filling {
-                Some(filling) => Action::Fill(filling, self.random.next()),
+                Some(filling) => self.fill(filling, a),
                 None => Call::Format.into(),
             };
         }
@@ -74,13 +79,22 @@ impl Generator {
             return self.resized(a, request);
         }
         if let Some(filling) = self.style.filling {
-            let every = if filling == Filling::Sound { 12 } else { 4 };
-            if self.random.below(every) == 0 {
-                self.burst.1 = 0;
-                return Action::Fill(filling, self.random.next());
+            let every = if matches!(filling, Filling::Sound | Filling::Linked) { 12 } else { 4 };
+            if self.asking.is_empty() && self.random.below(every) == 0 {
+                return self.fill(filling, a);
             }
         }
         Action::Call(self.call(a))
+    }
+
+    /// Areas so filled. Where they are linked, every object's chain is asked for then, in no order, and that of
+    /// two that are none.
+    fn fill(&mut self, filling: Filling, a: &Areas) -> Action {
+        self.burst.1 = 0;
+        if filling == Filling::Linked {
+            self.asking = (0..=a.objects() + 1).collect();
+        }
+        Action::Fill(filling, self.random.next())
     }
 
     fn resized(&mut self, a: &Areas, request: Request) -> Action {
@@ -139,6 +153,10 @@ impl Generator {
     }
 
     fn call(&mut self, a: &Areas) -> Request {
+        if !self.asking.is_empty() {
+            let next = self.random.below(self.asking.len());
+            return chain(self.asking.swap_remove(next), &mut self.random);
+        }
         if self.burst.1 > 0 {
             self.burst.1 -= 1;
             let goes_on = a.work[REOPENING] == 2 && (self.burst.0 == Call::Force || a.work[PHASE] != NO_PASS);
@@ -184,7 +202,7 @@ impl Generator {
             0 => odd_word(0, pages, r),
             _ => number(r, SLOTS * pages + 1),
         };
-        let call = match r.below(34) {
+        let call = match r.below(36) {
             0 if r.percent(10) => Call::Format,
             0..=2 => Call::Begin(t),
             3 | 4 => Call::Commit(t),
@@ -201,7 +219,8 @@ impl Generator {
             27 => Call::StartPass,
             28..=30 => Call::PassStep,
             31 if r.percent(20) => Call::Reopen,
-            _ => Call::ReopenStep,
+            31..=33 => Call::ReopenStep,
+            _ => return chain(object, r),
         };
         call.into()
     }
@@ -215,16 +234,18 @@ impl Generator {
             return self.drain(a, &active);
         }
         let pass = a.work[PHASE] != NO_PASS;
+        let building = self.style.building;
         let weights = [
             if active.len() < self.style.crowd { 12 } else { 1 }, // begin
             if active.is_empty() { 0 } else { 100 },
-            8,                         // force
-            6,                         // store
-            2,                         // empty
-            if pass { 1 } else { 8 },  // start
-            if pass { 40 } else { 1 }, // step
-            1,                         // reopen, one time in six
-            1,                         // drain
+            8,                                    // force
+            6,                                    // store
+            2,                                    // empty
+            if pass || building { 1 } else { 8 }, // start
+            if pass { 40 } else { 1 },            // step
+            1,                                    // reopen, one time in six
+            1,                                    // drain
+            if building { 30 } else { 5 },        // chain
         ];
         match self.random.weighted(&weights) {
             0 => Call::Begin(self.random.below(self.style.crowd + 1) as u32 % 16).into(),
@@ -239,6 +260,7 @@ impl Generator {
             7 if self.random.below(6) == 0 => Call::Reopen.into(),
             7 => Call::Force.into(),
             8 => self.drain(a, &active),
+            9 => self.chain(a),
             _ => self.step().into(),
         }
     }
@@ -267,9 +289,10 @@ impl Generator {
     fn of_transaction(&mut self, a: &Areas, t: u32) -> Request {
         let written: Vec<u32> =
             (0..a.pages() as u32).filter(|&p| a.get(Table::Writers, p as usize) & bit(t) != 0).collect();
-        let weights = match written.is_empty() {
-            true => [10, 40, 8, 1, 2, 1, 3, 2],
-            false => [4, 6, 12, 18, 34, 10, 5, 2],
+        let weights = match (written.is_empty(), self.style.building) {
+            (true, _) => [10, 40, 8, 1, 2, 1, 3, 2],
+            (false, true) => [4, 6, 30, 14, 50, 10, 5, 0],
+            (false, false) => [4, 6, 12, 18, 34, 10, 5, 2],
         };
         match self.random.weighted(&weights) {
             0 => Call::LockRead(t, self.page()).into(),
@@ -320,10 +343,12 @@ impl Generator {
         let object = self.known(a, t, writable).unwrap_or(ROOT);
         let field = if self.random.percent(75) { self.random.below(4) } else { self.random.below(8) };
         let word = match self.random.below(10) {
+            _ if self.style.building && field < 4 => self.known(a, t, |o| o != ROOT).unwrap_or(0),
             0..=2 => 0,
             3 => a.received[word_at(object, field)],
             4 if field < 4 && self.random.percent(40) => self.existing(a),
             _ if field < 4 => self.known(a, t, |_| true).unwrap_or(0),
+            4 | 5 => self.existing(a),
             _ => self.random.word(),
         };
         Call::SetWord(t, object, field as u32, word)
@@ -359,6 +384,17 @@ impl Generator {
         self.random.pick(&there).unwrap_or(ROOT)
     }
 
+    /// Mostly of an object that the copies have, other than the root.
+    fn chain(&mut self, a: &Areas) -> Request {
+        let there: Vec<u32> = (ROOT + 1..=a.objects()).filter(|&o| occupied(&a.copies, o)).collect();
+        let object = match self.random.below(12) {
+            0 => self.random.below(SLOTS * a.pages() + 2) as u32,
+            1 => self.existing(a),
+            _ => self.random.pick(&there).unwrap_or(ROOT),
+        };
+        chain(object, &mut self.random)
+    }
+
     /// A call on the way to an empty log.
     fn drain(&mut self, a: &Areas, active: &[u32]) -> Request {
         if let Some(t) = self.random.pick(active) {
@@ -390,6 +426,16 @@ fn bound(area: Area, index: usize, pages: usize) -> Option<u32> {
     }
     let table = TABLES.into_iter().rfind(|table| table.first(pages) <= index);
     table.map(Table::largest)
+}
+
+/// With a buffer of another length now and then.
+fn chain(object: u32, r: &mut Random) -> Request {
+    let words = match r.below(40) {
+        0 => r.pick(&[0, OBJECT_WORDS, CHAIN_WORDS - 1, CHAIN_WORDS + 1]).unwrap(),
+        1 => r.below(CHAIN_WORDS + 1000),
+        _ => CHAIN_WORDS,
+    };
+    Request::chain(object, words)
 }
 
 /// Flush images of every kind.
@@ -439,7 +485,7 @@ pub fn plan(random: &mut Random, scope: Scope) -> (usize, usize, Style, usize) {
     let calls = match style.filling {
         None if large => random.between(200, 3000),
         None => random.between(100, 1200),
-        Some(Filling::Sound) => random.between(100, 900),
+        Some(Filling::Sound | Filling::Linked) => random.between(100, 900),
         Some(_) => random.between(20, 300),
     };
     (pages, records, style, calls)
@@ -473,18 +519,20 @@ pub fn size(random: &mut Random, large: bool) -> (usize, usize) {
 
 fn style(random: &mut Random, scope: Scope) -> Style {
     let crowd = random.pick(&[1, 1, 2, 2, 3, 3, 5, 16]).unwrap();
-    let plain = Style { cuts: 3, damage: 0, lengths: 4, wild: 40, crowd, filling: None };
+    let plain = Style { cuts: 3, damage: 0, lengths: 4, wild: 40, crowd, building: false, filling: None };
     let styles = match scope {
-        Scope::Legal => [45, 20, 0, 0, 0, 0, 0],
-        _ => [45, 20, 15, 15, 2, 10, 6],
+        Scope::Legal => [45, 20, 25, 0, 0, 0, 0, 0, 0],
+        _ => [45, 20, 15, 15, 20, 2, 10, 6, 12],
     };
     match random.weighted(&styles) {
         0 => plain,
         1 => Style { cuts: 12, wild: 20, ..plain },
-        2 => Style { damage: 150, ..plain },
-        3 => Style { wild: 250, lengths: 15, cuts: 1, damage: 80, filling: Some(Filling::Sound), ..plain },
-        4 => Style { wild: 600, filling: Some(Filling::Noise), ..plain },
-        5 => Style { filling: Some(Filling::Reopening), ..plain },
-        _ => Style { filling: Some(Filling::Damaged), ..plain },
+        2 => Style { cuts: 1, wild: 10, crowd: crowd.min(2), building: true, ..plain },
+        3 => Style { damage: 150, ..plain },
+        4 => Style { wild: 250, lengths: 15, cuts: 1, damage: 80, filling: Some(Filling::Sound), ..plain },
+        5 => Style { wild: 600, filling: Some(Filling::Noise), ..plain },
+        6 => Style { filling: Some(Filling::Reopening), ..plain },
+        7 => Style { filling: Some(Filling::Damaged), ..plain },
+        _ => Style { damage: 30, lengths: 10, filling: Some(Filling::Linked), ..plain },
     }
 }

@@ -12,8 +12,10 @@
 //! Exit status 0 where nothing differs (power: where every fault is noticed), else 1.
 
 mod actions;
+mod chains;
 mod examples;
 mod generate;
+mod graphs;
 mod open;
 mod oracle;
 mod power;

@@ -2,7 +2,7 @@
 //! calls and cuts. None of them may lead to a store that is not well formed, or to a disk that does not open.
 
 use calls::{Call, Server};
-use kophdaen::{Held, NotHeld, OBJECT_WORDS};
+use kophdaen::{Held, NotHeld, CHAIN_WORDS, OBJECT_WORDS};
 use model::layout::*;
 use model::{whole, Fault, Model};
 
@@ -54,7 +54,7 @@ impl Disk {
 /// The store of a disk by the model: the areas, or why not.
 fn opened(disk: &Disk) -> Result<Areas, NotHeld> {
     let mut model = Model::new(disk.stored.len() / PAGE_WORDS, disk.records);
-    let whole_records = disk.stable.len() % RECORD_WORDS == 0;
+    let whole_records = disk.stable.len().is_multiple_of(RECORD_WORDS);
     if !whole_records || disk.stable.len() > model.areas.log.len() || model.areas.stored.len() != disk.stored.len()
     {
         return Err(NotHeld::Lengths);
@@ -70,10 +70,14 @@ fn opened(disk: &Disk) -> Result<Areas, NotHeld> {
     }
 }
 
-/// What an opened store answers to a short buffer, a long image, a call after a cut and the reopening then; whether it is
+/// What an opened store answers to short buffers, a long image, a call after a cut and the reopening then; whether it is
 /// well formed, and its areas.
 fn tried(mut held: Held) -> (Vec<u32>, bool, Areas) {
-    let mut answers = vec![held.read(&mut [0; OBJECT_WORDS - 1], 0, ROOT), held.flush(&[0; PAGE_WORDS + 1], 0, 0)];
+    let mut answers = vec![
+        held.read(&mut [0; OBJECT_WORDS - 1], 0, ROOT),
+        held.chain(&mut [0; CHAIN_WORDS - 1], ROOT),
+        held.flush(&[0; PAGE_WORDS + 1], 0, 0),
+    ];
     held.cut();
     answers.extend([held.begin(0), held.reopen()]);
     let numbers = answers.iter().map(|answer| answer.number).collect();
@@ -84,7 +88,7 @@ fn tried(mut held: Held) -> (Vec<u32>, bool, Areas) {
 fn open(disk: &Disk) -> Result<Result<Areas, NotHeld>, String> {
     let told = Held::open(&disk.stored, &disk.stable, disk.records).map(tried);
     let expected = opened(disk);
-    if told != expected.clone().map(|areas| (vec![1, 1, 2, 0], true, areas)) {
+    if told != expected.clone().map(|areas| (vec![1, 1, 1, 2, 0], true, areas)) {
         return Err(format!("opened differently ({:?} and {:?})", told.err(), expected.err()));
     }
     Ok(expected)
@@ -102,7 +106,8 @@ fn formats_alike(pages: usize, records: usize) -> bool {
 fn go_on(areas: &Areas, random: &mut Random) -> Result<(Areas, u64), String> {
     let audit = Action::from(Call::LockRead(16, 0));
     let crowd = random.between(1, 4);
-    let style = Style { cuts: 6, damage: 0, lengths: 0, wild: 40, crowd, filling: None };
+    let building = random.percent(20);
+    let style = Style { cuts: 6, damage: 0, lengths: 0, wild: 40, crowd, building, filling: None };
     let mut generator = Generator::new(Random::new(random.next()), style, areas.pages()).going_on();
     let mut pair = Pair::new(Kind::Library, MODEL, areas.pages(), areas.log.len() / RECORD_WORDS);
     pair.load(areas);

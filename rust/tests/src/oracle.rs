@@ -1,6 +1,6 @@
 //! The model against the Python oracle, over the oracle's line protocol: the answer of every call
 //! and, by `dumpall`, every word after it. The protocol cannot say a wrong length of an area or of
-//! a read buffer; such calls go with the right one.
+//! a read buffer; such calls go with the right one. It has no chain; such calls are left out.
 //!
 //! One known difference is kept out of the lists: the oracle has no bound on the pass's step number,
 //! which docs/LAYOUT.md ends at 17 x P (DECISIONS 35).
@@ -232,7 +232,7 @@ pub fn run(program: &str, seed: u64, calls: u64, scope: Scope) -> bool {
             model.format().unwrap();
             while list.actions.len() < length && tally.calls < until {
                 let sweeping = model.areas.work[PHASE] == SWEEPING;
-                let action = sayable(generator.next(&model.areas), pages);
+                let Some(action) = sayable(generator.next(&model.areas), pages) else { continue };
                 let answer = follow(&mut model, &action);
                 tally.note(&action, answer, sweeping);
                 list.actions.push(action);
@@ -253,18 +253,21 @@ pub fn run(program: &str, seed: u64, calls: u64, scope: Scope) -> bool {
     true
 }
 
-/// The action as the protocol can say it. The oracle has no bound on the step number (DECISIONS 35
-/// has one), so that one is not damaged above it.
-fn sayable(action: Action, pages: usize) -> Action {
-    match action {
-        Action::Call(Request { call: call @ Call::Read(..), .. }) => call.into(),
-        Action::Resized(_, _, Request { call: call @ Call::Read(..), .. }) => call.into(),
+/// The action as the protocol can say it, if it can. The oracle has no bound on the step number
+/// (DECISIONS 35 has one), so that one is not damaged above it.
+fn sayable(action: Action, pages: usize) -> Option<Action> {
+    match action.call() {
+        Some(Call::Chain(_)) => return None,
+        Some(call @ Call::Read(..)) => return Some(call.into()),
+        _ => {}
+    }
+    Some(match action {
         Action::Resized(_, _, request) => Action::Call(request),
         Action::Poke(Area::Work, PASS_STEP, value) => {
             Action::Poke(Area::Work, PASS_STEP, value % (17 * pages as u32 + 1))
         }
         action => action,
-    }
+    })
 }
 
 /// The action on the model alone.

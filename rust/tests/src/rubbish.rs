@@ -3,6 +3,7 @@
 use model::layout::*;
 
 use crate::actions::Filling;
+use crate::graphs::linked_pages;
 use crate::random::Random;
 
 pub fn fill(filling: Filling, seed: u64, pages: usize, records: usize) -> Areas {
@@ -11,6 +12,7 @@ pub fn fill(filling: Filling, seed: u64, pages: usize, records: usize) -> Areas 
     match filling {
         Filling::Noise => noise(&mut areas, &mut random),
         Filling::Sound => sound(&mut areas, &mut random),
+        Filling::Linked => linked(&mut areas, &mut random),
         Filling::Reopening => reopening(&mut areas, &mut random),
         Filling::Damaged => {
             reopening(&mut areas, &mut random);
@@ -104,6 +106,20 @@ fn sound(areas: &mut Areas, random: &mut Random) {
     sound_log(areas, random);
     sound_work(areas, random);
     single_holders(areas, random);
+}
+
+/// The copies linked, now and then with an unsound word; the received pages alike or not.
+fn linked(areas: &mut Areas, random: &mut Random) {
+    sound(areas, random);
+    let pages = areas.pages();
+    linked_pages(&mut areas.copies, pages, random);
+    if random.percent(50) {
+        areas.received.clone_from(&areas.copies);
+    }
+    if random.percent(6) {
+        let at = random.below(areas.copies.len());
+        areas.copies[at] = odd_word(areas.copies[at], pages, random);
+    }
 }
 
 fn sound_log(areas: &mut Areas, random: &mut Random) {

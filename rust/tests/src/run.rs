@@ -19,6 +19,8 @@ pub struct Pair {
     held: Option<Store>,
     /// How many of those were made.
     pub held_calls: u64,
+    /// What the last call left in the buffer that it was lent.
+    pub buffer: Vec<u32>,
     pages: usize,
     records: usize,
 }
@@ -31,11 +33,12 @@ pub struct Tally {
     pub held: u64,
     pub cuts: u64,
     pub freed: u64,
+    pub longest_chain: u64,
 }
 
 impl Tally {
     pub fn new() -> Tally {
-        Tally { answers: vec![[0; 17]; NAMES.len()], calls: 0, held: 0, cuts: 0, freed: 0 }
+        Tally { answers: vec![[0; 17]; NAMES.len()], calls: 0, held: 0, cuts: 0, freed: 0, longest_chain: 0 }
     }
 
     pub fn note(&mut self, action: &Action, answer: u64, sweeping: bool) {
@@ -44,8 +47,10 @@ impl Tally {
             let number = ((answer >> 32) as usize).min(16);
             let kind = NAMES.iter().position(|&name| name == call.name()).unwrap();
             self.answers[kind][number] += 1;
-            if number == 0 && sweeping && call == Call::PassStep {
-                self.freed += answer & 0xffff_ffff;
+            match call {
+                Call::PassStep if number == 0 && sweeping => self.freed += answer & 0xffff_ffff,
+                Call::Chain(_) if number == 0 => self.longest_chain = self.longest_chain.max(answer),
+                _ => {}
             }
         }
         if *action == Action::Cut {
@@ -55,22 +60,35 @@ impl Tally {
 
     pub fn print(&self) {
         print!("{:>8}", "call");
-        (0..15).for_each(|n| print!("{n:>8}"));
+        (0..16).for_each(|n| print!("{n:>8}"));
         println!();
         for (name, row) in NAMES.iter().zip(&self.answers) {
             print!("{name:>8}");
-            row[..15].iter().for_each(|n| print!("{n:>8}"));
+            row[..16].iter().for_each(|n| print!("{n:>8}"));
             println!();
         }
         println!(
-            "{} calls, {} of them held too, {} cuts, {} slots freed",
-            self.calls, self.held, self.cuts, self.freed
+            "{} calls, {} of them held too, {} cuts, {} slots freed, longest chain {}",
+            self.calls, self.held, self.cuts, self.freed, self.longest_chain
         );
     }
 }
 
 fn show(answer: u64) -> String {
     format!("{},{}", answer >> 32, answer & 0xffff_ffff)
+}
+
+/// A buffer before its call: each word tells where it stands, and none is 0.
+pub fn unwritten(words: usize) -> Vec<u32> {
+    (0..words as u32).map(|i| 0xb0f0 << 16 | i).collect()
+}
+
+/// Where two buffers differ.
+fn unlike(left: &[u32], right: &[u32]) -> Result<(), String> {
+    match left.iter().zip(right).position(|(l, r)| l != r) {
+        Some(at) => Err(format!("word {at} of the buffer: {} and {}", left[at], right[at])),
+        None => Ok(()),
+    }
 }
 
 impl Pair {
@@ -81,6 +99,7 @@ impl Pair {
             right: right.make(pages, records),
             held,
             held_calls: 0,
+            buffer: Vec::new(),
             pages,
             records,
         }
@@ -150,48 +169,36 @@ impl Pair {
 
     fn call(&mut self, request: &Request) -> Result<u64, String> {
         let image = request.image(self.left.area(Area::Received), self.left.area(Area::Copies));
-        let buffer: Vec<u32> = (0..request.buffer() as u32).map(|i| 0xb0f0 << 16 | i).collect();
-        let mut buffers = [buffer.clone(), buffer.clone()];
-        let [left_buffer, right_buffer] = &mut buffers;
+        let mut buffer = unwritten(request.buffer());
         let right = catch_unwind(AssertUnwindSafe(|| {
-            self.right.perform(request.call, Lent { buffer: right_buffer, image: &image })
+            self.right.perform(request.call, Lent { buffer: &mut buffer, image: &image })
         }));
         let Ok(right) = right else { return Err("the right side panics".to_string()) };
-        let left = self.left.perform(request.call, Lent { buffer: left_buffer, image: &image });
+        self.buffer = unwritten(request.buffer());
+        let left = self.left.perform(request.call, Lent { buffer: &mut self.buffer, image: &image });
         if left != right {
             return Err(format!("answers {} and {}", show(left), show(right)));
         }
-        if buffers[0] != buffers[1] {
-            return Err(format!("buffers {:?} and {:?}", buffers[0], buffers[1]));
-        }
-        self.held_call(request.call, &image, buffer, (left, &buffers[0]))?;
+        unlike(&self.buffer, &buffer)?;
+        self.held_call(request, &image, left).map_err(|what| format!("held: {what}"))?;
         self.compare().map(|_| left)
     }
 
     /// The held form of a call, held to the answer and the buffer that the call gave. Where the sides agree on
     /// refusal 1 there is none: the store may not be well formed.
-    fn held_call(
-        &mut self,
-        call: Call,
-        image: &[u32],
-        mut buffer: Vec<u32>,
-        (answer, read): (u64, &[u32]),
-    ) -> Result<(), String> {
+    fn held_call(&mut self, request: &Request, image: &[u32], answer: u64) -> Result<(), String> {
         let Some(store) = self.held.take_if(|_| answer >> 32 != 1) else { return Ok(()) };
+        let (call, mut buffer) = (request.call, unwritten(request.buffer()));
         // SAFETY: well formed, since both sides have found it so.
         let mut held = unsafe { Held::assume(store) };
         let made = call.on_held(&mut held, Lent { buffer: &mut buffer, image });
         self.held_calls += u64::from(made.is_some());
         let store = self.held.insert(held.into_store());
         let made = made.unwrap_or_else(|| call.on_library(store, Lent { buffer: &mut buffer, image }));
-        if made != answer || buffer != read {
-            return Err(format!(
-                "held: answer {} and buffer {buffer:?}, not {} and {read:?}",
-                show(made),
-                show(answer)
-            ));
+        if made != answer {
+            return Err(format!("answers {} and {}", show(answer), show(made)));
         }
-        Ok(())
+        unlike(&self.buffer, &buffer)
     }
 
     /// Whether every side has the left one's words.

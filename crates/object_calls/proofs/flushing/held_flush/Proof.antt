@@ -1,9 +1,8 @@
-use Rattle.acceptance.specs.Entered.{formed-sized, open-formed}
+use Rattle.acceptance.specs.Entered.{formed-sized, formed-own, open-formed}
 use Rattle.areas.specs.Answers.{verdict}
 use Rattle.areas.specs.Entry.{called-closed, called-refused, called-passed}
 use Rattle.calls.specs.Objects.{callFlush}
-use Rattle.object_calls.specs.Flushing.{flush-ready, flush-out}
-use Rattle.object_calls.specs.Own.{formed-own, own-fits}
+use Rattle.object_calls.specs.Flushing.{own-fits, flush-ready, flush-out}
 use Rattle.object_checks.specs.Tests.{flush-looks}
 use borrow.Author.Tests.{not-true, not-false, eqb-true}
 use mathlib.Core.Path.{sym, _∙_, ap}

@@ -1,5 +1,4 @@
-use Rattle.acceptance.specs.Entered.{formed-sized, open-formed}
-use Rattle.object_calls.specs.Own.{formed-own}
+use Rattle.acceptance.specs.Entered.{formed-sized, formed-own, open-formed}
 use Rattle.object_calls.specs.Reading.{read-ready, read-closed, read-refused, read-passed}
 use borrow.Author.Tests.{not-true, not-false, eqb-true}
 use mathlib.Core.Path.{sym, _∙_}

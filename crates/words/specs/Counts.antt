@@ -1,10 +1,10 @@
--- Laws of counting: none, at most all, and one more. Assumes nothing.
+-- Laws of counting: none, at most all, one more, and two tests together. Assumes nothing.
 use Prim.Native.Nat.{ℕ, zero, suc, _+_, _<_, _≤_}
 use native.Mathlib.Omega.{arith}
 use native.Mathlib.Decide.{ℕ-discrete}
 use mathlib.Core.Path.{_≡_, refl, sym}
-use mathlib.Core.Bool.{Bool, true, false}
+use mathlib.Core.Bool.{Bool, true, false, _||_}
 use Rattle.words.specs.Tests.{count, by-bool, count-same}
 
 pub count-none : (f : ℕ → Bool) (n : ℕ) → ((k : ℕ) → f k ≡ false) → count f n ≡ 0
 unfolding count
@@ -33,3 +33,11 @@ count-more f g (suc n) k l e d h = elim (ℕ-discrete k n) [
   | yes r ↦ (let same = count-same g f n (λ j m. h j (λ z. absurd (omega arith))) in rw (rw r at e, rw r at d, same) (omega arith))
   | no r ↦ (let m = count-more f g n k (omega arith) e d h in rw (h n (λ z. r (sym z)), m) (by-bool (f n) (λ c. rw c (omega arith)) (λ c. rw c (omega arith))))
 ]
+
+-- two tests that no number passes both of
+pub count-either : (f g : ℕ → Bool) (n : ℕ) → ((k : ℕ) → k < n → f k ≡ true → g k ≡ false) → count (λ k. g k || f k) n ≡ count g n + count f n
+unfolding count
+count-either f g zero h = refl
+count-either f g (suc n) h = let e = count-either f g n (λ k l. h k (omega arith)) in by-bool (f n)
+    (λ t. rw (t, h n (omega arith) t, e) (omega arith))
+    (λ t. rw (t, e) (by-bool (g n) (λ d. rw d (omega arith)) (λ d. rw d (omega arith))))

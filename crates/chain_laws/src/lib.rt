@@ -1,0 +1,1 @@
+// Laws of the search for a chain of references; no code.
