@@ -194,7 +194,3 @@ ended-so a n o from b p e = rw e at p
 
 pub ended-not : (a : List ℕ) (n o : ℕ) (from : List ℕ) (b : Bool) → Ended a n o from b → b ≡ false → chainIn a n o ≡ []
 ended-not a n o from b p e = rw e at p
-
--- an array of zeros
-pub zeros : (k i : ℕ) → _≡_ {A = ℕ} (getD {A = ℕ} (replicate k 0) i 0) 0
-zeros k i = by-bool (ltb i k) (λ t. getD-replicate {A = ℕ} k i 0 0 (ltb-true i k t)) (λ t. List·getD-eq-default {A = ℕ} (replicate k 0) 0 (let l = ltb-false i k t in let e = length-replicate {A = ℕ} k 0 in omega arith))

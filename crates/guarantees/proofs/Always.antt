@@ -9,6 +9,7 @@ use lib.Seq.{getD-set-same, getD-set-other}
 use lib.Dec.{eqb, ltb}
 use borrow.Author.Tests.{ltb-true, eqb-false, ne-eqb}
 use Rattle.words.specs.Tests.{by-bool}
+use Rattle.words.specs.Spans.{zero-at}
 use Rattle.pages.specs.Geometry.{slotWords, pageWords, maxPages}
 use Rattle.pages.specs.Objects.{wordOf, formattedPages}
 use Rattle.pages.specs.Soundness.{areaSound}
@@ -63,7 +64,7 @@ use Rattle.demand.proofs.Passing.{open-pass, open-step}
 use Rattle.demand.proofs.Holds.{sweeping-phase}
 use Rattle.demand.proofs.HoldsWaiting.{step-entered}
 use Rattle.demand.proofs.Sweep.{open-sweep, lines-fed}
-use Rattle.demand.proofs.Formatted.{zeros, zero-at, formatted-length, formatted-sound}
+use Rattle.demand.proofs.Formatted.{zeros, formatted-length, formatted-sound}
 use Rattle.demand.proofs.Reopen.{reopen-kept}
 use Rattle.demand.proofs.Restep.{restep-kept}
 use Rattle.demand.proofs.Start.{start-inv}
