@@ -8,10 +8,10 @@ use lib.Dec.{eqb, ltb}
 use lib.Bits.{bitOr}
 use lib.Count.{trailingZeros}
 use native.Mathlib.Omega.{arith}
-use Rattle.words.specs.Tests.{if, if-t, if-f, lowest, and-true, and-false, and-comm}
-use Rattle.words.specs.Bits.{bit, withBit, withoutBit, with-same, with-other, bit-without}
+use Rattle.words.specs.Tests.{if, if-t, if-f, lowest, and-true, and-comm}
+use Rattle.words.specs.Bits.{bit, withBit, withoutBit, with-same, with-other}
 use Rattle.words.specs.Lowest.{lowest-capped, lowest-same, trailing-lowest}
-use Rattle.page_laws.specs.BitLaws.{or-bits}
+use Rattle.page_laws.specs.BitLaws.{or-others}
 use Rattle.areas.specs.declared.Refusal.the-variants.{OutOfRange, WrongState, Held}
 use Rattle.areas.specs.declared.Check.{Check}
 use Rattle.areas.specs.declared.Check.the-variants.{Accept, Refuse}
@@ -19,7 +19,7 @@ use Rattle.areas.specs.Answers.{Test, need, verdict, passed, all-passed, need-h
 use Rattle.records.specs.Records.{txnCount}
 use Rattle.areas.specs.Areas.{Areas}
 use Rattle.areas.specs.Layout.{readersAt, writersAt}
-use Rattle.areas.specs.Tables.{at, has, gain, lose, isTxn, isActive, canWrite, canRead}
+use Rattle.areas.specs.Tables.{at, gain, lose, isTxn, isActive, canWrite, canRead}
 use Rattle.calls.specs.Locks.{noOther, holderOf, lockReadTests, readLocked, lockWriteTests, writeLocked}
 use Rattle.locks.specs.declared.Way.{Way}
 use Rattle.locks.specs.declared.Way.the-variants.{Clear, Barred}
@@ -57,12 +57,7 @@ module _ (w : List ℕ) (n t p : ℕ) (writing : Bool) {i j r v : ℕ} (hi : i �
   way-clear h = rw (← readers, ← writers, h)
 
   other : (u : ℕ) → bit (bitOr r v) u ≡ (not (eqb u t) && canRead w n u p)
-  other u = or-bits r v u
-      ∙ rw (readers, writers, bit-without (at w (readersAt n p)) t u, bit-without (at w (writersAt n p)) t u) (either (has w (readersAt n p) u) (has w (writersAt n p) u) (not (eqb u t)))
-    where
-      either : (a b c : Bool) → (a && c || b && c) ≡ (c && (a || b))
-      either a b true = rw (and-true a, and-true b)
-      either a b false = rw (and-false a, and-false b)
+  other u = rw (readers, writers) (or-others (at w (readersAt n p)) (at w (writersAt n p)) t u)
 
   pub way-barred : {h : ℕ} → eqb v 0 && (not writing || eqb r 0) ≡ false → h ≡ lowest (bit (bitOr r v)) txnCount → Barred h ≡ wayTo w n t p writing
   unfolding wayTo holderOf
