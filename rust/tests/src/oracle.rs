@@ -96,7 +96,7 @@ impl Script {
             writeln!(self.input, "poke,W,pass_steps,0,{}", model.areas.work[PASS_STEP]).unwrap();
         }
         let number = answer >> 32;
-        let value = if number == 6 { 0 } else { answer as u32 };
+        let value = if number == 6 { 0 } else { answer as u32 }; // the oracle tells no holder
         self.expected.push((
             i,
             match call {
