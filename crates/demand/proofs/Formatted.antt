@@ -1,11 +1,10 @@
 -- Areas of zeros, and the formatted pages: the root alone, with no reference. n is the number of pages. Assumes nothing.
 use Prim.Native.Nat.{ℕ, _*_, _≤_, _<_}
 use native.Mathlib.Omega.{arith}
-use native.Mathlib.Decide.{decLt}
 use mathlib.Core.Path.{_≡_, refl, sym, ap, _∙_}
 use mathlib.Core.Bool.{true}
 use mathlib.Core.List.{List}
-use lib.ListN.{length, getD, replicate, length-replicate, getD-replicate, List·getD-eq-default}
+use lib.ListN.{length, replicate, length-replicate}
 use lib.Dec.{eqb, ltb}
 use Rattle.words.specs.Tests.{if, by-bool}
 use Rattle.words.specs.Spans.{zero-at}

@@ -7,7 +7,7 @@ use mathlib.Core.List.{List}
 use lib.ListN.{length, set, replicate}
 use lib.Seq.{getD-set-other}
 use lib.Dec.{eqb, ltb}
-use Rattle.words.specs.Tests.{by-bool, clash, or-true, or-false}
+use Rattle.words.specs.Tests.{by-bool, or-true, or-false}
 use Rattle.words.specs.Spans.{zero-at}
 use Rattle.pages.specs.Geometry.{pageWords, slotWords}
 use Rattle.records.specs.Records.{txnCount}
@@ -22,7 +22,7 @@ use Rattle.calls.specs.Formatting.{formatted, cut}
 use Rattle.calls.specs.Locks.{readLocked, writeLocked}
 use Rattle.calls.specs.Objects.{created, wordSet, flushed}
 use Rattle.calls.specs.Pass.{callStep}
-use Rattle.calls.specs.Reopening.{callReopen, reopened, pageStored, reopeningOver, callRestep}
+use Rattle.calls.specs.Reopening.{reopened, pageStored, reopeningOver, callRestep}
 use Rattle.calls.specs.Transactions.{begun, endedTables, committed, aborted}
 use Rattle.acceptance.specs.Calls.{refused-keeps}
 use Rattle.acceptance.specs.Entered.{Open, opened}
@@ -31,7 +31,7 @@ use Rattle.acceptance.specs.Locks.{lock-read-outcome, lock-read-facts, lock-wri
 use Rattle.acceptance.specs.Objects.{read-outcome, read-facts, create-outcome, create-facts, set-outcome, set-facts, flush-outcome, flush-facts}
 use Rattle.acceptance.specs.Stability.{force-outcome, store-outcome, empty-outcome}
 use Rattle.acceptance.specs.Looks.{look-keeps}
-use Rattle.acceptance.specs.Pass.{pass-outcome, step-outcome, step-facts, step-way, StepWay, scans, turns, sweeps, sweepMapOf, sweeping, stepped}
+use Rattle.acceptance.specs.Pass.{pass-outcome, step-outcome, step-facts, step-way, StepWay, scans, turns, sweeps, stepped}
 use Rattle.acceptance.specs.Reopening.{reopen-ran, restep-outcome, restep-facts}
 use Rattle.book.specs.Books as Books
 use Rattle.book.specs.Books.{Book}
@@ -49,7 +49,7 @@ use Rattle.machine_calls.proofs.Learned.{read-locks}
 use Rattle.machine_calls.proofs.Locking.{lock-read-locks, lock-write-locks}
 use Rattle.machine_calls.proofs.Written.{set-locks}
 use Rattle.machine_pass.proofs.Start.{start-locks}
-use Rattle.demand.proofs.State.{OpenInv, StoringInv, Inv3, open-store, cut-store, reopening-store}
+use Rattle.demand.proofs.State.{OpenInv, Inv3, open-store, cut-store, reopening-store}
 use Rattle.demand.proofs.Finished.{accepted-open}
 use Rattle.demand.proofs.Holds.{sweeping-phase}
 use Rattle.demand.proofs.HoldsWaiting.{step-entered, storing-opened}

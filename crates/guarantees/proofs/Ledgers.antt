@@ -4,7 +4,7 @@ use mathlib.Core.List.{List, [], _∷_}
 use Rattle.areas.specs.Areas.{Areas}
 use Rattle.areas.specs.Entry.{pages}
 use Rattle.book.specs.Demand.{Event, Point, after, start}
-use Rattle.guarantees.specs.Disks.{fromDisk, Disk}
+use Rattle.guarantees.specs.Disks.{fromDisk}
 use Rattle.guarantees.specs.Ledgers.{Ledger, kept, AtEveryKept, last, then, AlwaysKept}
 use Rattle.guarantees.proofs.Always.{Sure, keep-sure, start-sure}
 use Rattle.guarantees.proofs.Disks.{disk-some}

@@ -15,4 +15,5 @@ pub mod Chains
 pub mod Committed
 pub mod Ledgers
 pub mod Granted
+pub mod Barred
 pub mod Holders

@@ -8,8 +8,8 @@ use native.Mathlib.Nat.{pow-suc, min-le-left, max-le}
 use native.Mathlib.Decide.{ℕ-discrete}
 use native.Mathlib.Omega.{arith}
 use borrow.Author.Tests.{eqb-true, eq-eqb, eqb-false, ltb-true, ltb-false, lt-ltb, le-ltb}
-use Rattle.words.specs.Tests.{if, by-bool, clash, and-true, and-false}
-use Rattle.words.specs.Bits.{bit, withBit, withoutBit, bit-low, bit-next, bit-le, without-same, without-other, bit-without, without-le, bit-above, bits-same}
+use Rattle.words.specs.Tests.{if, by-bool, and-true, and-false}
+use Rattle.words.specs.Bits.{bit, withBit, withoutBit, bit-low, bit-next, without-same, without-other, bit-without, without-le, bit-above, bits-same}
 use Rattle.pages.specs.Geometry.{slotCount}
 
 by-digit : (P : ℕ → Type 0) → P 0 → P 1 → (x : ℕ) → x < 2 → P x
