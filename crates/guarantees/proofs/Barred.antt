@@ -12,10 +12,9 @@ use Rattle.words.specs.Lowest.{lowest-bound, lowest-first}
 use Rattle.page_laws.specs.BitLaws.{or-none, or-others}
 use Rattle.records.specs.Records.{txnCount}
 use Rattle.areas.specs.declared.Refusal.the-variants.{Malformed, NotOpen, OutOfRange, WrongState, Held}
-use Rattle.areas.specs.declared.Answer.the-variants.{Refused}
 use Rattle.areas.specs.declared.Check.{Check}
 use Rattle.areas.specs.declared.Check.the-variants.{Accept}
-use Rattle.areas.specs.Answers.{answerOf, valueOf, unless, verdict}
+use Rattle.areas.specs.Answers.{numberOf, answerOf, valueOf, unless, verdict}
 use Rattle.areas.specs.Areas.{Areas, Out, done, checked, withWork}
 use Rattle.areas.specs.Layout.{readersAt, writersAt}
 use Rattle.areas.specs.Tables.{at, has, isTxn, isActive, canRead}
@@ -78,7 +77,11 @@ locks-as-before s = record {
   writing = λ t p. rw (write-tested s t p) (forgotten (tests s t p (writeFree s t p)) (holderOf (s .work) (pages s) t p) s (done 0 (withWork s (writeLocked (s .work) (pages s) t p))));
 }
 
--- what a refusal 6 that tells g says of the tests
+-- refused with 6, and g is told
+abbrev Tells : Out → ℕ → Type 0
+Tells o g = (answerOf (o .answer) ≡ numberOf (Held g)) × (valueOf (o .answer) ≡ g)
+
+-- what that says of the tests
 pub record Stopped (c : Tests) (h g : ℕ) : Type 0 where
   pub formed : c .form ≡ true
   pub opens : c .ready ≡ true
@@ -87,15 +90,15 @@ pub record Stopped (c : Tests) (h g : ℕ) : Type 0 where
   pub holder : h ≡ g
 
 stops : (form ready range active free : Bool) (h g : ℕ) (s a : Areas) → let c : Tests = record { form = form; ready = ready; range = range; active = active; free = free } in
-    checked (tested c h) s (done 0 a) .answer ≡ Refused (Held g) → Stopped c h g
-stops false ready range active free h g s a e = absurd (let z : 1 ≡ 6 = ap answerOf e in omega arith)
-stops true false range active free h g s a e = absurd (let z : 2 ≡ 6 = ap answerOf e in omega arith)
-stops true true false active free h g s a e = absurd (let z : 3 ≡ 6 = ap answerOf e in omega arith)
-stops true true true false free h g s a e = absurd (let z : 4 ≡ 6 = ap answerOf e in omega arith)
-stops true true true true false h g s a e = record { formed = refl; opens = refl; ranged = refl; barred = refl; holder = ap valueOf e }
-stops true true true true true h g s a e = absurd (let z : 0 ≡ 6 = ap answerOf e in omega arith)
+    Tells (checked (tested c h) s (done 0 a)) g → Stopped c h g
+stops false ready range active free h g s a e = absurd (let z : 1 ≡ 6 = e .0 in omega arith)
+stops true false range active free h g s a e = absurd (let z : 2 ≡ 6 = e .0 in omega arith)
+stops true true false active free h g s a e = absurd (let z : 3 ≡ 6 = e .0 in omega arith)
+stops true true true false free h g s a e = absurd (let z : 4 ≡ 6 = e .0 in omega arith)
+stops true true true true false h g s a e = record { formed = refl; opens = refl; ranged = refl; barred = refl; holder = e .1 }
+stops true true true true true h g s a e = absurd (let z : 0 ≡ 6 = e .0 in omega arith)
 
-stopped : (c : Tests) (h g : ℕ) (s a : Areas) → checked (tested c h) s (done 0 a) .answer ≡ Refused (Held g) → Stopped c h g
+stopped : (c : Tests) (h g : ℕ) (s a : Areas) → Tells (checked (tested c h) s (done 0 a)) g → Stopped c h g
 stopped c = stops (c .form) (c .ready) (c .range) (c .active) (c .free)
 
 -- the lowest other one, where there is one

@@ -10,7 +10,7 @@ use Rattle.records.specs.Records.{txnCount}
 use Rattle.areas.specs.declared.Answer.{Answer}
 use Rattle.areas.specs.declared.Answer.the-variants.{Done, Refused}
 use Rattle.areas.specs.declared.Refusal.the-variants.{OutOfRange, WrongState, Held}
-use Rattle.areas.specs.Answers.{Test, need, answerOf}
+use Rattle.areas.specs.Answers.{Test, need, numberOf, answerOf, valueOf}
 use Rattle.areas.specs.Areas.{Areas, Out, done, withWork}
 use Rattle.areas.specs.Layout.{readersAt, writersAt}
 use Rattle.areas.specs.Tables.{isTxn, isActive, canRead}
@@ -20,9 +20,9 @@ use Rattle.calls.specs.Calls.{Call, perform, begin, commit, abort, lockRead, lo
 use Rattle.book.specs.Demand.{Point}
 use Rattle.guarantees.specs.Ledgers.{Ledger, AlwaysKept}
 
--- the call is refused with 6, and the value is h
+-- the call is refused with 6, and its value is h
 abbrev pub Barred : Areas → Call → ℕ → Type 0
-Barred s c h = perform s c .answer ≡ Refused (Held h)
+Barred s c h = (answerOf (perform s c .answer) ≡ numberOf (Held h)) × (valueOf (perform s c .answer) ≡ h)
 
 -- 'the lowest-numbered other transaction with any lock on the page'; has u: u has a lock on it; t asks
 pub record Lowest (has : ℕ → Bool) (t h : ℕ) : Type 0 where
