@@ -82,6 +82,12 @@ as-open n s b (open-store i) e = i
 as-open n s b (cut-store i) e = absurd (let z = i .word in omega arith)
 as-open n s b (reopening-store k l i) e = absurd (let z = i .word in omega arith)
 
+-- an accepted step of a reopening finds one that runs
+pub as-storing : (n : ℕ) (s : Areas) (b : Book) → Inv3 n s b → accepted (callRestep s .answer) ≡ true → (k : ℕ) × StoringInv n s b k
+as-storing n s b (open-store i) a = absurd (let e = restep-facts s (restep-outcome s .ran a .passed) .running in let w = i .word in omega arith)
+as-storing n s b (cut-store i) a = absurd (let e = restep-facts s (restep-outcome s .ran a .passed) .running in let w = i .word in omega arith)
+as-storing n s b (reopening-store k l i) a = (k, i)
+
 -- a reopening that runs
 storing-fine : (n : ℕ) → 1 ≤ n → (s : Areas) (b : Book) → Inv3 n s b → reopening s ≡ 1 → Sized s n → areaSound (s .stored) n ≡ true → stableCount s ≤ records s → Firm n b → Fine n s b
 unfolding committedLines committedOf
@@ -143,9 +149,9 @@ module _ (n : ℕ) (some : 1 ≤ n) (s : Areas) (b : Book) (k : ℕ) (i : Storin
 restep-fine : (n : ℕ) → 1 ≤ n → (s : Areas) (b : Book) → Fine n s b → Inv3 n s b → accepted (callRestep s .answer) ≡ true
     → Inv3 n (callRestep s .after) (fed n b restep (s .received) (callRestep s .after .received)) → Fine n (callRestep s .after) (fed n b restep (s .received) (callRestep s .after .received))
 unfolding fed
-restep-fine n some s b f (open-store i) a j = absurd (let e = restep-facts s (restep-outcome s .ran a .passed) .running in let w = i .word in omega arith)
-restep-fine n some s b f (cut-store i) a j = absurd (let e = restep-facts s (restep-outcome s .ran a .passed) .running in let w = i .word in omega arith)
-restep-fine n some s b f (reopening-store k l i) a j =
+restep-fine n some s b f v a j =
+    let k = as-storing n s b v a .0 in
+    let i = as-storing n s b v a .1 in
     let p = at (s .work) reopeningPageAt in
     let g = step-entered n some s b k i a .1 in
     by-bool (ltb p n)

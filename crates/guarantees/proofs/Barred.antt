@@ -5,7 +5,7 @@ use mathlib.Core.Path.{_≡_, refl, sym, ap, _∙_}
 use mathlib.Core.Bool.{Bool, true, false, not, _&&_, _||_}
 use lib.Bits.{bitOr, or-lt}
 use lib.Dec.{eqb, ltb}
-use borrow.Author.Tests.{not-true, eqb-true, eqb-false, ne-eqb, ltb-true}
+use borrow.Author.Tests.{not-true, not-false, eqb-true, eqb-false, ne-eqb, ltb-true}
 use Rattle.words.specs.Tests.{any, lowest, by-bool, clash, and-split, and-comm, or-r, any-same, any-intro, any-elim, lowest-passes}
 use Rattle.words.specs.Bits.{bit, withoutBit, bit-without, without-le, none-set}
 use Rattle.words.specs.Lowest.{lowest-bound, lowest-first}
@@ -14,7 +14,7 @@ use Rattle.records.specs.Records.{txnCount}
 use Rattle.areas.specs.declared.Refusal.the-variants.{Malformed, NotOpen, OutOfRange, WrongState, Held}
 use Rattle.areas.specs.declared.Check.{Check}
 use Rattle.areas.specs.declared.Check.the-variants.{Accept}
-use Rattle.areas.specs.Answers.{numberOf, answerOf, valueOf, unless, verdict}
+use Rattle.areas.specs.Answers.{unless, verdict}
 use Rattle.areas.specs.Areas.{Areas, Out, done, checked, withWork}
 use Rattle.areas.specs.Layout.{readersAt, writersAt}
 use Rattle.areas.specs.Tables.{at, has, isTxn, isActive, canRead}
@@ -23,8 +23,7 @@ use Rattle.calls.specs.Locks.{noOther, holderOf, lockReadTests, readLocked, cal
 use Rattle.calls.specs.Calls.{perform, lockRead, lockWrite}
 use Rattle.acceptance.specs.Entered.{open-formed}
 use Rattle.acceptance.specs.Working.{Working}
-use Rattle.guarantees.specs.Holders.{Barred, Lowest, HolderTold, AsBefore, LocksAsBefore, holds, other}
-use Rattle.guarantees.proofs.Refusals.{formed}
+use Rattle.guarantees.specs.Holders.{Tells, Barred, Lowest, HolderTold, AsBefore, LocksAsBefore, other}
 
 -- the five tests of a lock: refusals 1, 2, 3, 4 and 6
 pub record Tests : Type 0 where
@@ -77,11 +76,7 @@ locks-as-before s = record {
   writing = λ t p. rw (write-tested s t p) (forgotten (tests s t p (writeFree s t p)) (holderOf (s .work) (pages s) t p) s (done 0 (withWork s (writeLocked (s .work) (pages s) t p))));
 }
 
--- refused with 6, and g is told
-abbrev Tells : Out → ℕ → Type 0
-Tells o g = (answerOf (o .answer) ≡ numberOf (Held g)) × (valueOf (o .answer) ≡ g)
-
--- what that says of the tests
+-- what a refusal 6 that tells g says of the tests
 pub record Stopped (c : Tests) (h g : ℕ) : Type 0 where
   pub formed : c .form ≡ true
   pub opens : c .ready ≡ true
@@ -125,11 +120,6 @@ free-both r v t h k =
     let l : bitOr (withoutBit r t) (withoutBit v t) < 2 ^ txnCount = or-lt txnCount (withoutBit r t) (withoutBit v t) (omega arith) (omega arith) in
     sym (or-none (withoutBit r t) (withoutBit v t)) ∙ none-set txnCount (bitOr (withoutBit r t) (withoutBit v t)) l ∙ ap not (any-same _ _ txnCount (λ u m. or-others r v t u))
 
--- not none: some
-some-of : (b : Bool) → not b ≡ false → b ≡ true
-some-of true h = refl
-some-of false h = sym h
-
 wider : (f g : ℕ → Bool) (t : ℕ) → ((u : ℕ) → f u ≡ true → g u ≡ true) → any (other t f) txnCount ≡ true → any (other t g) txnCount ≡ true
 wider f g t h e = any-elim (other t f) txnCount e (λ u l d. let q = and-split (not (eqb u t)) (f u) d in any-intro (other t g) txnCount u l (rw (q .0) (h u (q .1))))
 
@@ -159,11 +149,11 @@ module _ (s : Areas) (t p h : ℕ) where
   -- another writes the page
   pub read-barred : Read → any (other t (bit (at (s .work) (writersAt n p)))) txnCount ≡ true
   read-barred k = let w = working (k .formed) (k .opens) in
-      some-of _ (sym (free-one (at (s .work) (writersAt n p)) t (w .writers p (page-in (k .ranged)))) ∙ k .barred)
+      not-false _ (sym (free-one (at (s .work) (writersAt n p)) t (w .writers p (page-in (k .ranged)))) ∙ k .barred)
 
   write-barred : Write → any (other t (λ u. canRead (s .work) n u p)) txnCount ≡ true
   write-barred k = let w = working (k .formed) (k .opens) in
-      some-of _ (sym (free-both (at (s .work) (readersAt n p)) (at (s .work) (writersAt n p)) t (w .readers p (page-in (k .ranged))) (w .writers p (page-in (k .ranged)))) ∙ k .barred)
+      not-false _ (sym (free-both (at (s .work) (readersAt n p)) (at (s .work) (writersAt n p)) t (w .readers p (page-in (k .ranged))) (w .writers p (page-in (k .ranged)))) ∙ k .barred)
 
   tells : holderOf (s .work) n t p ≡ h → any (other t (λ u. canRead (s .work) n u p)) txnCount ≡ true → Lowest (λ u. canRead (s .work) n u p) t h
   unfolding holderOf

@@ -32,7 +32,7 @@ use Rattle.acceptance.specs.Objects.{read-outcome, read-facts, create-outcome, 
 use Rattle.acceptance.specs.Stability.{force-outcome, store-outcome, empty-outcome}
 use Rattle.acceptance.specs.Looks.{look-keeps}
 use Rattle.acceptance.specs.Pass.{pass-outcome, step-outcome, step-facts, step-way, StepWay, scans, turns, sweeps, stepped}
-use Rattle.acceptance.specs.Reopening.{reopen-ran, restep-outcome, restep-facts}
+use Rattle.acceptance.specs.Reopening.{reopen-ran}
 use Rattle.book.specs.Books as Books
 use Rattle.book.specs.Books.{Book}
 use Rattle.book.specs.Feeding.{fed}
@@ -49,7 +49,7 @@ use Rattle.machine_calls.proofs.Learned.{read-locks}
 use Rattle.machine_calls.proofs.Locking.{lock-read-locks, lock-write-locks}
 use Rattle.machine_calls.proofs.Written.{set-locks}
 use Rattle.machine_pass.proofs.Start.{start-locks}
-use Rattle.demand.proofs.State.{OpenInv, Inv3, open-store, cut-store, reopening-store}
+use Rattle.demand.proofs.State.{OpenInv, Inv3}
 use Rattle.demand.proofs.Finished.{accepted-open}
 use Rattle.demand.proofs.Holds.{sweeping-phase}
 use Rattle.demand.proofs.HoldsWaiting.{step-entered, storing-opened}
@@ -58,7 +58,7 @@ use Rattle.demand.proofs.Rest.{no-locks}
 use Rattle.guarantees.specs.Disks.{fromDisk}
 use Rattle.guarantees.specs.Ledgers.{kept}
 use Rattle.guarantees.specs.Holders.{Granted, nothing, fallen, granting, grants, holds}
-use Rattle.guarantees.proofs.Always.{Sure, as-open}
+use Rattle.guarantees.proofs.Always.{Sure, as-open, as-storing}
 use Rattle.guarantees.proofs.Through.{through}
 
 pub record Agrees (n : ℕ) (w : List ℕ) (l : Granted) : Type 0 where
@@ -148,9 +148,9 @@ reopen-clear s j h = getD-set-other (replicate (length (s .work)) 0) 0 j 1 0 (λ
 
 restep-agrees : (n : ℕ) → 1 ≤ n → (s : Areas) (b : Book) → Inv3 n s b → accepted (callRestep s .answer) ≡ true → (l : Granted) → Agrees n (s .work) l → Agrees n (callRestep s .after .work) l
 unfolding pageStored reopeningOver
-restep-agrees n some s b (open-store i) r l a = absurd (let e = restep-facts s (restep-outcome s .ran r .passed) .running in let w = i .word in omega arith)
-restep-agrees n some s b (cut-store i) r l a = absurd (let e = restep-facts s (restep-outcome s .ran r .passed) .running in let w = i .word in omega arith)
-restep-agrees n some s b (reopening-store k h i) r l a =
+restep-agrees n some s b v r l a =
+    let k = as-storing n s b v r .0 in
+    let i = as-storing n s b v r .1 in
     let p = at (s .work) reopeningPageAt in
     let g = step-entered n some s b k i r .1 in
     by-bool (ltb p n)
@@ -203,11 +203,6 @@ module _ (n : ℕ) (some : 1 ≤ n) (s : Areas) (b : Book) (v : Inv3 n s b) (l :
   accepted-agrees (look q) a = rw (look-keeps s q) g
 
   -- only a reopening and its steps change the stage of the book
-  stepping : (i : Inv3 n s b) → accepted (callRestep s .answer) ≡ true → b .stage ≡ Books.opened → ⊥
-  stepping (open-store i) a e = let k = restep-facts s (restep-outcome s .ran a .passed) .running in let w = i .word in omega arith
-  stepping (cut-store i) a e = let k = restep-facts s (restep-outcome s .ran a .passed) .running in let w = i .word in omega arith
-  stepping (reopening-store k h i) a e = storing-opened (sym (i .stage) ∙ e)
-
   accepted-closed : Closed b l → (c : Call) → accepted (perform s c .answer) ≡ true → (r : List ℕ) → Closed (fed n b c (s .received) r) (granting l c)
   unfolding fed perform
   accepted-closed f (begin t) a r shut = absurd (shut (here (begin t) refl a .stage))
@@ -225,7 +220,7 @@ module _ (n : ℕ) (some : 1 ≤ n) (s : Areas) (b : Book) (v : Inv3 n s b) (l :
   accepted-closed f pass a r shut = absurd (shut (here pass refl a .stage))
   accepted-closed f step a r shut = absurd (shut (here step refl a .stage))
   accepted-closed f reopen a r shut = λ u p. refl
-  accepted-closed f restep a r shut = f (stepping v a)
+  accepted-closed f restep a r shut = f (λ e. storing-opened (sym (as-storing n s b v a .1 .stage) ∙ e))
   accepted-closed f (look q) a r shut = absurd (shut (here (look q) refl a .stage))
 
 -- the invariant: the masks are the ledger's, and where the store is not open nobody has a page

@@ -17,7 +17,7 @@ use Rattle.areas.specs.declared.Check.the-variants.{Accept}
 use Rattle.areas.specs.Answers.{unless}
 use Rattle.areas.specs.Areas.{Areas, done, checked, withWork}
 use Rattle.areas.specs.Layout.{readersAt, writersAt}
-use Rattle.areas.specs.Tables.{at, has, isTxn, isActive, canRead}
+use Rattle.areas.specs.Tables.{at, isTxn, isActive, canRead}
 use Rattle.areas.specs.Entry.{pages, wellFormed, isReady}
 use Rattle.calls.specs.Locks.{noOther, holderOf, readLocked, writeLocked}
 use Rattle.calls.specs.Calls.{perform, lockRead, lockWrite}
@@ -65,7 +65,7 @@ answers : (c : Tests) (h : ℕ) (s a : Areas) → c .form ≡ true → c .ready 
 answers c h s a e1 e2 e3 e4 x e5 = rw (e1, e2, e3, e4, e5) (answered x h s a)
 
 -- an open store, by the ledger and the book
-module _ (n : ℕ) (s : Areas) (b : Book) (i : OpenInv n s b) (f : Fine n s b) (l : Granted) (a : Agrees n (s .work) l) where
+module _ (n : ℕ) (s : Areas) (b : Book) (i : OpenInv n s b) (z : Fine n s b) (l : Granted) (a : Agrees n (s .work) l) where
   active-in : (t : ℕ) → (b .running t ≡ 0 → ⊥) → t < txnCount
   unfolding txns
   active-in t r = i .collector .exclusive .active t (i .runs t r)
@@ -74,26 +74,31 @@ module _ (n : ℕ) (s : Areas) (b : Book) (i : OpenInv n s b) (f : Fine n s b) (
   active-bit t r = sym (act-is s n (machine n s b) (machine-shows n s b) t (active-in t r)) ∙ i .runs t r
 
   open-word : Working (s .work) n
-  open-word = rw (i .size) at (open-formed true s (formed n s b f true refl) (i .word) .ranged .working)
+  open-word = rw (i .size) at (open-formed true s (formed n s b z true refl) (i .word) .ranged .working)
+
+  -- the tests of a lock, for n pages
+  abbrev asked : ℕ → ℕ → Bool → Tests
+  asked t p free = record { form = wellFormed true s; ready = isReady true s; range = isTxn t && ltb p n; active = isActive (s .work) t; free = free }
+
+  -- it is free where f holds of no other one
+  answer-so : (t p : ℕ) → (b .running t ≡ 0 → ⊥) → p < n → (free : Bool) (f : ℕ → Bool) (k : Areas) → free ≡ not (any (other t f) txnCount)
+      → checked (tested (asked t p free) (holderOf (s .work) n t p)) s (done 0 k) .answer ≡ answerBy l t p f
+  unfolding answerBy
+  answer-so t p r h free f k e =
+      answers (asked t p free) (holderOf (s .work) n t p) s k (formed n s b z true refl) (eq-eqb _ _ (i .word)) (rw (lt-ltb t txnCount (active-in t r)) (lt-ltb p n h)) (active-bit t r)
+      (any (other t f) txnCount) e ∙ rw (holder-by n (s .work) l a p h t)
+
+  -- another, by the ledger and by a mask
+  as-other : (f g : ℕ → Bool) (t : ℕ) → ((u : ℕ) → u < txnCount → f u ≡ g u) → not (any (other t g) txnCount) ≡ not (any (other t f) txnCount)
+  as-other f g t e = ap not (any-same _ _ txnCount (λ u k. ap (λ (x : Bool). not (eqb u t) && x) (sym (e u k))))
 
   reads-so : (t p : ℕ) → (b .running t ≡ 0 → ⊥) → p < n → perform s (lockRead t p) .answer ≡ answerBy l t p (λ u. l .writes u p)
-  unfolding answerBy
-  reads-so t p r h = rw (read-tested s t p, i .size)
-      (answers (record { form = wellFormed true s; ready = isReady true s; range = isTxn t && ltb p n; active = isActive (s .work) t; free = noOther (s .work) (writersAt n p) t })
-      (holderOf (s .work) n t p) s (withWork s (readLocked (s .work) n t p))
-      (formed n s b f true refl) (eq-eqb _ _ (i .word)) (rw (lt-ltb t txnCount (active-in t r)) (lt-ltb p n h)) (active-bit t r) (any (other t (λ u. l .writes u p)) txnCount)
-      (free-one (at (s .work) (writersAt n p)) t (open-word .writers p h) ∙ ap not (any-same _ _ txnCount (λ u k. ap (λ (x : Bool). not (eqb u t) && x) (sym (writes-bit n (s .work) l a p h u k)))))
-      ∙ rw (holder-by n (s .work) l a p h t))
+  reads-so t p r h = rw (read-tested s t p, i .size) (answer-so t p r h (noOther (s .work) (writersAt n p) t) (λ u. l .writes u p) (withWork s (readLocked (s .work) n t p))
+      (free-one (at (s .work) (writersAt n p)) t (open-word .writers p h) ∙ as-other _ _ t (writes-bit n (s .work) l a p h)))
 
   writes-so : (t p : ℕ) → (b .running t ≡ 0 → ⊥) → p < n → perform s (lockWrite t p) .answer ≡ answerBy l t p (λ u. holds l u p)
-  unfolding answerBy
-  writes-so t p r h = rw (write-tested s t p, i .size)
-      (answers (record { form = wellFormed true s; ready = isReady true s; range = isTxn t && ltb p n; active = isActive (s .work) t; free = noOther (s .work) (readersAt n p) t && noOther (s .work) (writersAt n p) t })
-      (holderOf (s .work) n t p) s (withWork s (writeLocked (s .work) n t p))
-      (formed n s b f true refl) (eq-eqb _ _ (i .word)) (rw (lt-ltb t txnCount (active-in t r)) (lt-ltb p n h)) (active-bit t r) (any (other t (λ u. holds l u p)) txnCount)
-      (free-both (at (s .work) (readersAt n p)) (at (s .work) (writersAt n p)) t (open-word .readers p h) (open-word .writers p h)
-      ∙ ap not (any-same _ _ txnCount (λ u k. ap (λ (x : Bool). not (eqb u t) && x) (sym (holds-bit n (s .work) l a p h u k)))))
-      ∙ rw (holder-by n (s .work) l a p h t))
+  writes-so t p r h = rw (write-tested s t p, i .size) (answer-so t p r h (noOther (s .work) (readersAt n p) t && noOther (s .work) (writersAt n p) t) (λ u. holds l u p) (withWork s (writeLocked (s .work) n t p))
+      (free-both (at (s .work) (readersAt n p)) (at (s .work) (writersAt n p)) t (open-word .readers p h) (open-word .writers p h) ∙ as-other _ _ t (holds-bit n (s .work) l a p h)))
 
   -- who has a page runs; a writer has it alone
   runs-so : (u p : ℕ) → holds l u p ≡ true → b .running u ≡ 0 → ⊥

@@ -20,9 +20,13 @@ use Rattle.calls.specs.Calls.{Call, perform, begin, commit, abort, lockRead, lo
 use Rattle.book.specs.Demand.{Point}
 use Rattle.guarantees.specs.Ledgers.{Ledger, AlwaysKept}
 
--- the call is refused with 6, and its value is h
+-- refused with 6, and the value is h
+abbrev pub Tells : Out → ℕ → Type 0
+Tells o h = (answerOf (o .answer) ≡ numberOf (Held h)) × (valueOf (o .answer) ≡ h)
+
+-- the call is, where the store stands
 abbrev pub Barred : Areas → Call → ℕ → Type 0
-Barred s c h = (answerOf (perform s c .answer) ≡ numberOf (Held h)) × (valueOf (perform s c .answer) ≡ h)
+Barred s c h = Tells (perform s c) h
 
 -- 'the lowest-numbered other transaction with any lock on the page'; has u: u has a lock on it; t asks
 pub record Lowest (has : ℕ → Bool) (t h : ℕ) : Type 0 where
@@ -72,6 +76,7 @@ pub record Granted : Type 0 where
   pub reads : ℕ → ℕ → Bool
   pub writes : ℕ → ℕ → Bool
 
+-- nobody has a page
 abbrev pub nothing : Granted
 nothing = record { reads = λ u q. false; writes = λ u q. false }
 
