@@ -1,5 +1,6 @@
 /* A depot's day through the C functions: a dispenser with two valves, one of them replaced, what
- * leads to the old one, a pass that frees it, a power cut in the middle of a job, and the start after it.
+ * leads to the old one, a pass that frees it, a page that another has, a power cut in the middle of a
+ * job, and the start after it.
  * docs/CALLING.md explains the calls; examples/depot.rs is the same day in Rust. */
 #include <inttypes.h>
 #include <stdio.h>
@@ -37,7 +38,7 @@ static void write_log(void)
     disk.stable = counts[1];
 }
 
-/* The value of an accepted call. This day expects no refusal but the one that it prints. */
+/* The value of an accepted call. This day expects no refusals but those that it prints. */
 static uint32_t done(uint64_t code)
 {
     if (KOPHDAEN_ANSWER(code) != 0) {
@@ -182,6 +183,17 @@ static void why(void)
     printf("\n");
 }
 
+/* Another crew asks for a page that is taken, and is told whom to call. */
+static void who_has(uint32_t t, uint32_t page)
+{
+    uint64_t code;
+    done(kophdaen_areas_begin(&depot, t));
+    code = kophdaen_areas_lock_read(&depot, t, page);
+    printf("page %" PRIu32 ": answer %" PRIu32 ", transaction %" PRIu32 " has it\n", page, KOPHDAEN_ANSWER(code),
+           KOPHDAEN_VALUE(code));
+    done(kophdaen_areas_abort(&depot, t));
+}
+
 int main(void)
 {
     format();
@@ -193,6 +205,7 @@ int main(void)
     why();
     printf("slots freed: %" PRIu32 "\n", collect());
     reach_dispenser(2);
+    who_has(3, 1);
     done(kophdaen_areas_set_word(&depot, 2, DISPENSER, 0, 0)); /* a job that the cut stops */
     force_all();
     printf("power cut: %" PRIu32 " records stable\n", disk.stable);

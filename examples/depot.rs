@@ -1,5 +1,6 @@
 //! A depot's day through the Rust wrapper: a dispenser with two valves, one of them replaced, what
-//! leads to the old one, a pass that frees it, a power cut in the middle of a job, and the start after it.
+//! leads to the old one, a pass that frees it, a page that another has, a power cut in the middle of a
+//! job, and the start after it.
 //! docs/CALLING.md explains the calls; examples/depot.c is the same day in C.
 
 use kophdaen::{Answer, Store, CHAIN_WORDS, OBJECT_WORDS, PAGE_WORDS, RECORD_WORDS};
@@ -29,7 +30,7 @@ struct Server {
     disk: Disk,
 }
 
-/// The value of an accepted call. This day expects no refusal but the one that it prints.
+/// The value of an accepted call. This day expects no refusals but those that it prints.
 fn done(answer: Answer) -> u32 {
     assert!(answer.accepted(), "refused with {}", answer.number);
     answer.value
@@ -176,6 +177,18 @@ impl Server {
             .for_each(|object| print!(" {object}"));
         println!();
     }
+
+    /// Another crew asks for a page that is taken, and is told whom to call.
+    fn who_has(&mut self, t: u32, page: u32) {
+        done(self.store.begin(t));
+        let answer = self.store.lock_read(t, page);
+        let holder = answer.holder().expect("refused with 6");
+        println!(
+            "page {page}: answer {}, transaction {holder} has it",
+            answer.number
+        );
+        done(self.store.abort(t));
+    }
 }
 
 fn main() {
@@ -188,6 +201,7 @@ fn main() {
     server.why();
     println!("slots freed: {}", server.collect());
     server.reach_dispenser(2);
+    server.who_has(3, 1);
     done(server.store.set_word(2, DISPENSER, 0, 0)); // a job that the cut stops
     server.force_all();
     println!(

@@ -12,9 +12,9 @@
  * does not overlap, its image or buffer neither with an area.
  *
  * A call answers  answer number * 2^32 + value : number 0 where accepted, else the number of the
- * refusal (1 to 15), with the value 0 and every buffer as it was. Any words may be lent, but to the
- * held calls. docs/CALLING.md has the refusals, what to write to the disk and when, and names whole
- * programs.
+ * refusal (1 to 15), with every buffer as it was. A refusal's value is 0, but that of 6, which is a
+ * transaction that has the page: see the locks. Any words may be lent, but to the held calls.
+ * docs/CALLING.md has the refusals, what to write to the disk and when, and names whole programs.
  */
 #ifndef KOPHDAEN_H
 #define KOPHDAEN_H
@@ -57,7 +57,9 @@ uint64_t kophdaen_abort(
     uint32_t *received, size_t received_words, uint32_t *log, size_t log_words,
     uint32_t *counts, size_t counts_words, uint32_t *work, size_t work_words, uint32_t t);
 
-/* Locks never wait. Value 0. */
+/* Locks never wait. Value 0; where the answer is 6, KOPHDAEN_VALUE(code) tells whom to call: the
+ * lowest-numbered other transaction with any lock on the page, for reading or for writing (0 is
+ * transaction 0). */
 uint64_t kophdaen_lock_read(
     const uint32_t *stored, size_t stored_words, const uint32_t *copies, size_t copies_words,
     const uint32_t *received, size_t received_words, const uint32_t *log, size_t log_words,

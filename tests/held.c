@@ -32,7 +32,8 @@ static void expect(const char *what, int so)
         expect(#name " answers " #number, KOPHDAEN_ANSWER(*code++) == number); \
     } while (0)
 
-/* An object is created under the root, with a word of its own, and is there after a reopening. */
+/* An object is created under the root, with a word of its own, and is there after a reopening. Between, locks are refused, and
+ * tell who has the page. */
 static void work(const kophdaen_areas *a, store *s, int held)
 {
     uint64_t *code = s->codes;
@@ -54,8 +55,15 @@ static void work(const kophdaen_areas *a, store *s, int held)
     CALL(3, chain, a, LENT(s->chain), 33);
     CALL(0, commit, a, 0);
     CALL(0, begin, a, 1);
+    CALL(0, lock_write, a, 1, 0);
+    CALL(0, begin, a, 0);
+    CALL(6, lock_read, a, 0, 0);
+    expect("transaction 1 has the page", KOPHDAEN_VALUE(code[-1]) == 1);
+    CALL(6, lock_write, a, 0, 0);
+    expect("transaction 1 has it still", KOPHDAEN_VALUE(code[-1]) == 1);
+    CALL(0, abort, a, 0);
     CALL(0, abort, a, 1);
-    for (int record = 0; record < 7; record++) CALL(0, force, a);
+    for (int record = 0; record < 9; record++) CALL(0, force, a);
     CALL(0, start_pass, a);
     CALL(0, pass_step, a);
     CALL(0, store_page, a, 0);

@@ -6,7 +6,7 @@ use native.Mathlib.Numerals.{add-one}
 use mathlib.Core.Path.{_≡_, refl, sym, ap, _∙_, subst}
 use mathlib.Core.Bool.{Bool, true, false, _||_}
 use mathlib.Core.List.{List, [], _∷_, _++_}
-use lib.ListN.{length, getD, set, replicate, length-set, length-replicate, getD-replicate, List·getD-append, List·getD-eq-default}
+use lib.ListN.{length, getD, set, length-set, List·getD-append}
 use lib.Seq.{getD-set-same, getD-set-other, getD-at}
 use lib.Dec.{ltb}
 use borrow.Author.Tests.{ltb-true, ltb-false, ne-eqb}
@@ -194,7 +194,3 @@ ended-so a n o from b p e = rw e at p
 
 pub ended-not : (a : List ℕ) (n o : ℕ) (from : List ℕ) (b : Bool) → Ended a n o from b → b ≡ false → chainIn a n o ≡ []
 ended-not a n o from b p e = rw e at p
-
--- an array of zeros
-pub zeros : (k i : ℕ) → _≡_ {A = ℕ} (getD {A = ℕ} (replicate k 0) i 0) 0
-zeros k i = by-bool (ltb i k) (λ t. getD-replicate {A = ℕ} k i 0 0 (ltb-true i k t)) (λ t. List·getD-eq-default {A = ℕ} (replicate k 0) 0 (let l = ltb-false i k t in let e = length-replicate {A = ℕ} k 0 in omega arith))

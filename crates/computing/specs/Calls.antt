@@ -23,7 +23,7 @@ use Rattle.areas.specs.Tables.{greyed}
 use Rattle.calls.specs.Calls.{perform}
 use Rattle.calls.specs.Chains.{chainTests, chainLook, callChain, chainAfter}
 use Rattle.calls.specs.Formatting.{formatted, formatTests, callFormat, cut}
-use Rattle.calls.specs.Locks.{lockReadTests, readLocked, callLockRead, lockWriteTests, writeLocked, callLockWrite}
+use Rattle.calls.specs.Locks.{holderOf, lockReadTests, readLocked, callLockRead, lockWriteTests, writeLocked, callLockWrite}
 use Rattle.calls.specs.Looks.{callLook}
 use Rattle.calls.specs.Objects.{readTests, learned, callRead, bufferAfter, createTests, created, callCreate, setTests, pruned, wordSet, callSet, flushTests, flushed, callFlush}
 use Rattle.calls.specs.Pass.{passTests, unflagged, passStarted, callPass, lowestGrey, targetsGreyed, scanned, marked, sweepMap, freedMap, advanced, sweepTests, sweptPage, swept, stepTests, callStep}
@@ -34,5 +34,5 @@ use Rattle.calls.specs.Transactions.{beginTests, begun, callBegin, endedTables,
 
 -- what its line names opens with it; its value is of no use
 unfoldable pub calls : ℕ
-unfolding withBit withoutBit mapOf slotsSet over fill copied upTo same all any count sum lowest isRefAt cleared takenSlot freedSlot releasedIn formattedPages refsSound slotZero freeZero pageSound areaSound tabulate rowsOf withRows changesIn changesLeft reserved effect undone undoing lastNaming openIn logSound redone undoneIn recovered recoverable wordSound recordSound recordsSound lastOf found passing extended followed searched chainTo verdict appended wellFormed called lengthsFit rowsInRange workInRange countsInRange inRange greyed perform chainTests chainLook callChain chainAfter formatted formatTests callFormat cut lockReadTests readLocked callLockRead lockWriteTests writeLocked callLockWrite callLook readTests learned callRead bufferAfter createTests created callCreate setTests pruned wordSet callSet flushTests flushed callFlush passTests unflagged passStarted callPass lowestGrey targetsGreyed scanned marked sweepMap freedMap advanced sweepTests sweptPage swept stepTests callStep reopenTests reopened callReopen restepTests pageStored reopeningOver callRestep roomBeyond forceTests callForce storeTests callStore emptyTests callEmpty beginTests begun callBegin endedTables allFlushed commitTests committed callCommit rolledBack restored abortTests aborted callAbort
+unfolding withBit withoutBit mapOf slotsSet over fill copied upTo same all any count sum lowest isRefAt cleared takenSlot freedSlot releasedIn formattedPages refsSound slotZero freeZero pageSound areaSound tabulate rowsOf withRows changesIn changesLeft reserved effect undone undoing lastNaming openIn logSound redone undoneIn recovered recoverable wordSound recordSound recordsSound lastOf found passing extended followed searched chainTo verdict appended wellFormed called lengthsFit rowsInRange workInRange countsInRange inRange greyed perform chainTests chainLook callChain chainAfter formatted formatTests callFormat cut holderOf lockReadTests readLocked callLockRead lockWriteTests writeLocked callLockWrite callLook readTests learned callRead bufferAfter createTests created callCreate setTests pruned wordSet callSet flushTests flushed callFlush passTests unflagged passStarted callPass lowestGrey targetsGreyed scanned marked sweepMap freedMap advanced sweepTests sweptPage swept stepTests callStep reopenTests reopened callReopen restepTests pageStored reopeningOver callRestep roomBeyond forceTests callForce storeTests callStore emptyTests callEmpty beginTests begun callBegin endedTables allFlushed commitTests committed callCommit rolledBack restored abortTests aborted callAbort
 calls = 0

@@ -8,6 +8,7 @@ use mathlib.Core.List.{List, [], _∷_, _++_}
 use lib.ListN.{length, getD, take, drop, replicate, length-replicate, List·getD-eq-default}
 use lib.Seq.{getD-set-same, set-out}
 use Rattle.words.specs.Tests.{all-same}
+use Rattle.words.specs.Spans.{zero-at}
 use Rattle.records.specs.Records.{made, recordAt, recordWords}
 use Rattle.records.specs.Soundness.{recordSound}
 use Rattle.records.specs.Order.{openIn, inOrder, logSound}
@@ -16,7 +17,7 @@ use Rattle.calls.specs.Formatting.{cut}
 use Rattle.book.specs.Books.{awaiting, Book, stopped}
 use Rattle.record_laws.specs.RecordLaws.{open-same}
 use Rattle.recovery_proof.proofs.Appending.{recs-same}
-use Rattle.demand.proofs.Formatted.{zeros, zero-at}
+use Rattle.demand.proofs.Formatted.{zeros}
 use Rattle.demand.proofs.State.{stable, Inv3, cut-store}
 use Rattle.demand.proofs.Stopping.{stops, inv-size, waiting-moved}
 

@@ -1,13 +1,13 @@
 -- Areas of zeros, and the formatted pages: the root alone, with no reference. n is the number of pages. Assumes nothing.
 use Prim.Native.Nat.{ℕ, _*_, _≤_, _<_}
 use native.Mathlib.Omega.{arith}
-use native.Mathlib.Decide.{decLt}
 use mathlib.Core.Path.{_≡_, refl, sym, ap, _∙_}
 use mathlib.Core.Bool.{true}
 use mathlib.Core.List.{List}
-use lib.ListN.{length, getD, replicate, length-replicate, getD-replicate, List·getD-eq-default}
+use lib.ListN.{length, replicate, length-replicate}
 use lib.Dec.{eqb, ltb}
 use Rattle.words.specs.Tests.{if, by-bool}
+use Rattle.words.specs.Spans.{zero-at}
 use Rattle.words.specs.Bits.{bit, bit-none}
 use Rattle.pages.specs.Geometry.{pageOf, slotOf, objectAt, pageAt, slotAt, root, pageWords, slotWords, slotCount}
 use Rattle.pages.specs.Objects.{slotWord, wordOf, formattedPages}
@@ -23,9 +23,6 @@ use Rattle.book_laws.specs.Keeping.{Origin}
 
 abbrev pub zeros : ℕ → List ℕ
 zeros n = replicate n 0
-
-pub zero-at : (n i : ℕ) → getD (zeros n) i 0 ≡ 0
-zero-at n i = elim (decLt i n) [ yes l ↦ getD-replicate n i 0 0 l | no l ↦ List·getD-eq-default (zeros n) 0 (rw (length-replicate {A = ℕ} n 0) (omega arith)) ]
 
 zeros-view : (n x : ℕ) → view (zeros n) x ≡ blank
 unfolding blank

@@ -1,5 +1,5 @@
 -- An accepted start of a pass, and a pass step that frees nothing, keep the invariant. n is the number of pages. Assumes nothing.
-use Prim.Native.Nat.{ℕ, suc, _+_, _*_, _≤_, _<_}
+use Prim.Native.Nat.{ℕ, suc, _+_, _≤_, _<_}
 use native.Mathlib.Omega.{arith}
 use native.Mathlib.Decide.{decLt}
 use mathlib.Core.Path.{_≡_, refl, sym, ap, _∙_}
@@ -44,7 +44,7 @@ use Rattle.demand.proofs.State.{machine, OpenInv}
 use Rattle.demand.proofs.Holds.{sweeping-phase}
 use Rattle.demand.proofs.Unlogged.{open-unlocked}
 use Rattle.page_laws.specs.Places.{object-range}
-use Rattle.pages.specs.Geometry.{objectCount}
+use Rattle.pages.specs.Geometry.{objectCount, isObject}
 
 -- a pass record written leaves the words of a reopening
 pass-beside : (w : List ℕ) (phase page steps : ℕ) → Beside 2 5 w (withPass w phase page steps)
@@ -83,23 +83,38 @@ module _ (n : ℕ) (some : 1 ≤ n) (s : Areas) (b : Book) (i : OpenInv n s b) (
     phase : phaseOf (at (s .work) phaseAt) ≡ M.marking
     phase = rw (eqb-true (at (s .work) phaseAt) 1 marks) refl
 
-    pub scan-kept : leb (lowestGrey (s .work) n) (objectCount n) ≡ true → OpenInv n (scanning s n .after) b
-    scan-kept g =
-        let o = lowestGrey (s .work) n in
-        let ok = lowest-object (s .work) n g in
-        let r = object-range n o ok in
-        let refs : (f : ℕ) → f < 4 → wordOf (s .copies) o f ≤ objectCount n = λ f l. reference (s .copies) n (h .ranged .copies-sound) o f (r .0) (r .1) l in
-        let facts : MarkFacts (machine n s b) o = record { phase = phase; colour = lowest-grey (s .work) n g } in
-        let room : at (s .work) stepsAt < stepsTop n = let k = steps-marking (machine n s b) o facts (i .collector) in omega arith in
-        let len = h .sized .tables .1 in
-        let l = scan-locks n (s .copies) (s .work) o refs len ok some room in
-        let t = scan-tables n (s .copies) (s .work) o refs len ok some room in
-        passing (withPass (scanned (s .copies) (s .work) n o) 1 (at (s .work) passPageAt) (stepsNext (s .work) n)) (C.marked (machine n s b) o)
-        (record { count = refl; locks = sym l; tables = sym t; pass = sym (scan-pass n (s .copies) (s .work) o refs len ok some room) })
-        (keep-mark (machine n s b) o facts (i .collector)) refl refl
-        (pass-beside (scanned (s .copies) (s .work) n o) 1 (at (s .work) passPageAt) (stepsNext (s .work) n) .below reopeningAt (omega arith)
-        ∙ scanned-low n (s .copies) (s .work) o refs len ok reopeningAt (omega arith))
-        l (ap (λ (a : Tables). a .kn) t)
+    module _ (g : leb (lowestGrey (s .work) n) (objectCount n) ≡ true) where
+      abbrev grey : ℕ
+      grey = lowestGrey (s .work) n
+
+      ok : isObject n grey ≡ true
+      ok = lowest-object (s .work) n g
+
+      refs : (f : ℕ) → f < 4 → wordOf (s .copies) grey f ≤ objectCount n
+      refs f l = let r = object-range n grey ok in reference (s .copies) n (h .ranged .copies-sound) grey f (r .0) (r .1) l
+
+      facts : MarkFacts (machine n s b) grey
+      facts = record { phase = phase; colour = lowest-grey (s .work) n g }
+
+      room : at (s .work) stepsAt < stepsTop n
+      room = let k = steps-marking (machine n s b) grey facts (i .collector) in omega arith
+
+      pub scan-same : locksOf (scanning s n .after .work) n ≡ locksOf (s .work) n
+      scan-same = scan-locks n (s .copies) (s .work) grey refs (h .sized .tables .1) ok some room
+
+      pub scan-kept : OpenInv n (scanning s n .after) b
+      scan-kept =
+          let len = h .sized .tables .1 in
+          let t = scan-tables n (s .copies) (s .work) grey refs len ok some room in
+          passing (withPass (scanned (s .copies) (s .work) n grey) 1 (at (s .work) passPageAt) (stepsNext (s .work) n)) (C.marked (machine n s b) grey)
+          (record { count = refl; locks = sym scan-same; tables = sym t; pass = sym (scan-pass n (s .copies) (s .work) grey refs len ok some room) })
+          (keep-mark (machine n s b) grey facts (i .collector)) refl refl
+          (pass-beside (scanned (s .copies) (s .work) n grey) 1 (at (s .work) passPageAt) (stepsNext (s .work) n) .below reopeningAt (omega arith)
+          ∙ scanned-low n (s .copies) (s .work) grey refs len ok reopeningAt (omega arith))
+          scan-same (ap (λ (a : Tables). a .kn) t)
+
+    pub turn-same : locksOf (turning s n .after .work) n ≡ locksOf (s .work) n
+    turn-same = moved-locks n (s .work) 2 0 (stepsNext (s .work) n) (h .sized .tables .1)
 
     pub turn-kept : leb (lowestGrey (s .work) n) (objectCount n) ≡ false → OpenInv n (turning s n .after) b
     turn-kept g =
@@ -107,12 +122,11 @@ module _ (n : ℕ) (some : 1 ≤ n) (s : Areas) (b : Book) (i : OpenInv n s b) (
         let room : at w stepsAt < stepsTop n =
         let e = i .collector .counted .scanned phase in let k = countb-most (objectCount n) (λ x. isBlack (machine n s b .pass .col (suc x))) in omega arith in
         let len = h .sized .tables .1 in
-        let l = moved-locks n w 2 0 (stepsNext w n) len in
         let t = moved-tables n w 2 0 (stepsNext w n) len in
         passing (withPass w 2 0 (stepsNext w n)) (C.turned (machine n s b))
-        (record { count = refl; locks = sym l; tables = sym t; pass = sym (moved-pass n w 2 0 (stepsNext w n) len ∙ rw (steps-suc w n room) refl) })
+        (record { count = refl; locks = sym turn-same; tables = sym t; pass = sym (moved-pass n w 2 0 (stepsNext w n) len ∙ rw (steps-suc w n room) refl) })
         (keep-turn (machine n s b) (record { phase = phase; noGrey = λ o low top. no-grey w n g o }) (i .collector)) refl refl
-        (pass-beside w 2 0 (stepsNext w n) .below reopeningAt (omega arith)) l (ap (λ (a : Tables). a .kn) t)
+        (pass-beside w 2 0 (stepsNext w n) .below reopeningAt (omega arith)) turn-same (ap (λ (a : Tables). a .kn) t)
 
   -- sweeping
   module _ (phase : phaseOf (at (s .work) phaseAt) ≡ M.sweeping) where
@@ -129,16 +143,18 @@ module _ (n : ℕ) (some : 1 ≤ n) (s : Areas) (b : Book) (i : OpenInv n s b) (
     pub advance-word : at (advanced (s .work) n (at (s .work) passPageAt)) reopeningAt ≡ at (s .work) reopeningAt
     advance-word = advanced-beside .below reopeningAt (omega arith)
 
+    pub advance-same : locksOf (advanced (s .work) n (at (s .work) passPageAt)) n ≡ locksOf (s .work) n
+    advance-same = on-locks n (s .work) (h .sized .tables .1) sweep-room phase
+
     pub skip-kept : eqb (sweepMapOf s n) 0 ≡ true → OpenInv n (sweeping s n .after) b
     skip-kept z =
         let w = s .work in
         let len = h .sized .tables .1 in
-        let l = on-locks n w len sweep-room phase in
         let t = on-tables n w len sweep-room phase in
         rw z (passing (advanced w n (at w passPageAt)) (C.advanced (machine n s b))
-        (record { count = refl; locks = sym l; tables = sym t; pass = sym (on-pass n w len sweep-room phase) })
+        (record { count = refl; locks = sym advance-same; tables = sym t; pass = sym (on-pass n w len sweep-room phase) })
         (keep-skip (machine n s b) (record { phase = phase }) (i .collector)) refl refl
-        advance-word l (ap (λ (a : Tables). a .kn) t))
+        advance-word advance-same (ap (λ (a : Tables). a .kn) t))
 
 pub open-pass : (n : ℕ) → 1 ≤ n → (s : Areas) (b : Book) → OpenInv n s b → accepted (callPass s .answer) ≡ true
     → OpenInv n (callPass s .after) (fed n b pass (s .received) (callPass s .after .received))

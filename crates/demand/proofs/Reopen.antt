@@ -5,6 +5,7 @@ use mathlib.Core.Path.{_≡_, refl, sym, ap, _∙_}
 use mathlib.Core.Bool.{true}
 use lib.ListN.{length, length-replicate}
 use lib.Seq.{getD-set-same, getD-set-other}
+use Rattle.words.specs.Spans.{zero-at}
 use Rattle.records.specs.Recovery.{recovered}
 use Rattle.areas.specs.Answers.{accepted}
 use Rattle.areas.specs.Areas.{Areas, Out, receivedCount, stableCount}
@@ -27,7 +28,7 @@ use Rattle.demand.proofs.State.{Waiting, StoringInv, Inv3, reopening-st
 use Rattle.demand.proofs.HoldsWaiting.{idle-full}
 use Rattle.demand.proofs.Shared.{full-ext}
 use Rattle.demand.proofs.Stopping.{stops, inv-size, waiting-moved}
-use Rattle.demand.proofs.Formatted.{zeros, zero-at}
+use Rattle.demand.proofs.Formatted.{zeros}
 use Rattle.pages.specs.Soundness.{areaSound}
 use Rattle.pages.specs.Geometry.{pageWords}
 

@@ -69,7 +69,7 @@ module _ (n : ℕ) (w : List ℕ) (clear : (i : ℕ) → 2 ≤ i → at w i ≡ 
   wr-none : (t p : ℕ) → locksOf w n .wr t p ≡ false
   wr-none t p = page-none (writersAt n) (λ q. omega arith) t p
 
-  no-locks : locksOf w n ≡ record { act = λ t. false; rd = λ t q. false; wr = λ t q. false }
+  pub no-locks : locksOf w n ≡ record { act = λ t. false; rd = λ t q. false; wr = λ t q. false }
   no-locks = λ z. record { act = λ t. act-none t z; rd = λ t p. page-none (readersAt n) (λ q. omega arith) t p z; wr = λ t p. wr-none t p z }
 
   no-tables : tablesOf w n ≡ record { kn = λ t o. false; prt = λ t o. false; cot = λ t o. false; cotF = λ o. false; dirty = λ t q. false }

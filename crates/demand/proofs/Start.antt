@@ -6,6 +6,7 @@ use mathlib.Core.Bool.{true}
 use mathlib.Core.List.{List, []}
 use lib.ListN.{length-replicate}
 use lib.Seq.{getD-set-same, getD-set-other}
+use Rattle.words.specs.Spans.{zero-at}
 use Rattle.pages.specs.Objects.{formattedPages}
 use Rattle.records.specs.Soundness.{recordSound}
 use Rattle.areas.specs.Areas.{Areas}
@@ -20,7 +21,7 @@ use Rattle.reach.specs.Reaching.{reached-some}
 use Rattle.book_laws.specs.Keeping.{Origin, SoundFrom}
 use Rattle.book_laws.proofs.Invariant.{blank-inv}
 use Rattle.book_laws.proofs.Members.{each-nil}
-use Rattle.demand.proofs.Formatted.{zeros, zero-at, formatted-length, formatted-origin, no-word}
+use Rattle.demand.proofs.Formatted.{zeros, formatted-length, formatted-origin, no-word}
 use Rattle.demand.proofs.State.{Inv3, open-store}
 use Rattle.demand.proofs.Stopping.{whole-of}
 use Rattle.demand.proofs.Rest.{Resting, rest-open}

@@ -43,7 +43,7 @@ use Rattle.machine_view.specs.View.{view, applied}
 use Rattle.machine_view.proofs.Places.{page-of-at, slot-of-at}
 use Rattle.machine_calls.specs.Tables.{phaseOf, locksOf, tablesOf}
 use Rattle.machine_pass.proofs.PassFacts.{unlocked-unwritten}
-use Rattle.machine_pass.proofs.Sweep.{deadAt-is, swept-view, on-locks, on-tables, on-pass}
+use Rattle.machine_pass.proofs.Sweep.{deadAt-is, swept-view, on-tables, on-pass}
 use Rattle.recovery_proof.proofs.Decided.{SameCells, some-first}
 use Rattle.recovery_proof.proofs.Invariant as Recovery
 use Rattle.machine_view.proofs.Effects.{view-occ}
@@ -62,7 +62,7 @@ use Rattle.book_laws.proofs.Sweeps.{sweep-released}
 use Rattle.demand.proofs.State.{machine, received, OpenInv}
 use Rattle.demand.proofs.OneRecord.{Appends, log-after}
 use Rattle.demand.proofs.Change.{full-shown}
-use Rattle.demand.proofs.Passing.{sweep-room, advance-word}
+use Rattle.demand.proofs.Passing.{sweep-room, advance-word, advance-same}
 
 chosen : (c : Bool) (u v : Seen) → if c u v ≡ record { object = cond c (u .object) (v .object); tag = cond c (u .tag) (v .tag) }
 chosen true u v = refl
@@ -137,7 +137,7 @@ module _ (n : ℕ) (some : 1 ≤ n) (s : Areas) (b : Book) (i : OpenInv n s b) (
 
   -- the collector's part
   locks : locksOf w n ≡ locksOf (s .work) n
-  locks = on-locks n (s .work) (h .sized .tables .1) (sweep-room n some s b i h ph) ph
+  locks = advance-same n some s b i h ph
 
   tables : tablesOf w n ≡ tablesOf (s .work) n
   tables = on-tables n (s .work) (h .sized .tables .1) (sweep-room n some s b i h ph) ph

@@ -9,6 +9,7 @@ use lib.Seq.{getD-set-same, getD-set-other}
 use lib.Dec.{eqb, ltb}
 use borrow.Author.Tests.{ltb-true, eqb-false, ne-eqb}
 use Rattle.words.specs.Tests.{by-bool}
+use Rattle.words.specs.Spans.{zero-at}
 use Rattle.pages.specs.Geometry.{slotWords, pageWords, maxPages}
 use Rattle.pages.specs.Objects.{wordOf, formattedPages}
 use Rattle.pages.specs.Soundness.{areaSound}
@@ -63,11 +64,12 @@ use Rattle.demand.proofs.Passing.{open-pass, open-step}
 use Rattle.demand.proofs.Holds.{sweeping-phase}
 use Rattle.demand.proofs.HoldsWaiting.{step-entered}
 use Rattle.demand.proofs.Sweep.{open-sweep, lines-fed}
-use Rattle.demand.proofs.Formatted.{zeros, zero-at, formatted-length, formatted-sound}
+use Rattle.demand.proofs.Formatted.{zeros, formatted-length, formatted-sound}
 use Rattle.demand.proofs.Reopen.{reopen-kept}
 use Rattle.demand.proofs.Restep.{restep-kept}
 use Rattle.demand.proofs.Start.{start-inv}
 use Rattle.demand.proofs.Theorem.{keep}
+use Rattle.guarantees.proofs.Through.{through}
 use Rattle.guarantees.proofs.Tables.{Within, set-within, word, reopening-page, read-locked-within, write-locked-within, learned-within, started-within, scanning-within, turning-within, advanced-within, clear-within}
 use Rattle.guarantees.proofs.Sound.{Firm, firm-stop}
 use Rattle.guarantees.proofs.Fine.{Fine, resized, in-range, open-fine, held-none, quiet-fine}
@@ -79,6 +81,12 @@ pub as-open : (n : ℕ) (s : Areas) (b : Book) → Inv3 n s b → reopening s �
 as-open n s b (open-store i) e = i
 as-open n s b (cut-store i) e = absurd (let z = i .word in omega arith)
 as-open n s b (reopening-store k l i) e = absurd (let z = i .word in omega arith)
+
+-- an accepted step of a reopening finds one that runs
+pub as-storing : (n : ℕ) (s : Areas) (b : Book) → Inv3 n s b → accepted (callRestep s .answer) ≡ true → (k : ℕ) × StoringInv n s b k
+as-storing n s b (open-store i) a = absurd (let e = restep-facts s (restep-outcome s .ran a .passed) .running in let w = i .word in omega arith)
+as-storing n s b (cut-store i) a = absurd (let e = restep-facts s (restep-outcome s .ran a .passed) .running in let w = i .word in omega arith)
+as-storing n s b (reopening-store k l i) a = (k, i)
 
 -- a reopening that runs
 storing-fine : (n : ℕ) → 1 ≤ n → (s : Areas) (b : Book) → Inv3 n s b → reopening s ≡ 1 → Sized s n → areaSound (s .stored) n ≡ true → stableCount s ≤ records s → Firm n b → Fine n s b
@@ -141,9 +149,9 @@ module _ (n : ℕ) (some : 1 ≤ n) (s : Areas) (b : Book) (k : ℕ) (i : Storin
 restep-fine : (n : ℕ) → 1 ≤ n → (s : Areas) (b : Book) → Fine n s b → Inv3 n s b → accepted (callRestep s .answer) ≡ true
     → Inv3 n (callRestep s .after) (fed n b restep (s .received) (callRestep s .after .received)) → Fine n (callRestep s .after) (fed n b restep (s .received) (callRestep s .after .received))
 unfolding fed
-restep-fine n some s b f (open-store i) a j = absurd (let e = restep-facts s (restep-outcome s .ran a .passed) .running in let w = i .word in omega arith)
-restep-fine n some s b f (cut-store i) a j = absurd (let e = restep-facts s (restep-outcome s .ran a .passed) .running in let w = i .word in omega arith)
-restep-fine n some s b f (reopening-store k l i) a j =
+restep-fine n some s b f v a j =
+    let k = as-storing n s b v a .0 in
+    let i = as-storing n s b v a .1 in
     let p = at (s .work) reopeningPageAt in
     let g = step-entered n some s b k i a .1 in
     by-bool (ltb p n)
@@ -151,14 +159,9 @@ restep-fine n some s b f (reopening-store k l i) a j =
     (λ e. let d : callRestep s .after ≡ reopeningOver s = g ∙ rw e refl in rw d (over-fine n some s b k i f a _ refl refl refl (rw d at j)))
 
 -- an accepted call of an open store, by what it went through
-through : (own : Bool) (s : Areas) (tests : ℕ → List Test) (o : Out) (k : ℕ → Out) (n : ℕ) (b′ : Book) → Outcome true own s tests o k → accepted (o .answer) ≡ true → pages s ≡ n
+fine-through : (own : Bool) (s : Areas) (tests : ℕ → List Test) (o : Out) (k : ℕ → Out) (n : ℕ) (b′ : Book) → Outcome true own s tests o k → accepted (o .answer) ≡ true → pages s ≡ n
     → OpenInv n (o .after) b′ → (Open s n → verdict (tests n) ≡ Accept → OpenInv n (k n .after) b′ → Fine n (k n .after) b′) → Fine n (o .after) b′
-through own s tests o k n b′ h a size j f =
-    let r = h .ran a in
-    let p = opened own s (r .n) (r .ready) in
-    let e : r .n ≡ n = sym (p .sized .count) ∙ size in
-    let g : o .after ≡ k n .after = ap (λ (x : Out). x .after) (r .gives) ∙ ap (λ (m : ℕ). k m .after) e in
-    rw g (f (rw e at p) (rw e at (r .passed)) (rw g at j))
+fine-through own s tests o k n b′ h a size j f = through own s tests o k n (λ x. OpenInv n x b′ → Fine n x b′) h a size f j
 
 -- a pass step
 sweep-fine : (n : ℕ) → 1 ≤ n → (s : Areas) (b : Book) → OpenInv n s b → Fine n s b → Open s n → phaseOf (at (s .work) phaseAt) ≡ M.sweeping → verdict (sweepTests s (sweepMapOf s n)) ≡ Accept → (sweepMapOf s n ≡ 0 → ⊥)
@@ -196,38 +199,38 @@ module _ (n : ℕ) (some : 1 ≤ n) (s : Areas) (b : Book) (f : Fine n s b) (v :
   pub accepted-fine : (c : Call) → accepted (perform s c .answer) ≡ true → Fine n (perform s c .after) (fed n b c (s .received) (perform s c .after .received))
   unfolding perform fed
   accepted-fine (begin t) a = let i = here (begin t) refl a in
-      through true s _ _ _ n _ (begin-outcome s t) a (i .size) (open-begin n some s b i t a) (λ h k j. begun-fine n some s b i f h t (begin-facts s t k) j)
+      fine-through true s _ _ _ n _ (begin-outcome s t) a (i .size) (open-begin n some s b i t a) (λ h k j. begun-fine n some s b i f h t (begin-facts s t k) j)
   accepted-fine (commit t) a = let i = here (commit t) refl a in
-      through true s _ _ _ n _ (commit-outcome s t) a (i .size) (open-commit n some s b i t a) (λ h k j. committed-fine n some s b i f h t (commit-facts s n t k) j)
+      fine-through true s _ _ _ n _ (commit-outcome s t) a (i .size) (open-commit n some s b i t a) (λ h k j. committed-fine n some s b i f h t (commit-facts s n t k) j)
   accepted-fine (abort t) a = let i = here (abort t) refl a in
-      through true s _ _ _ n _ (abort-outcome s t) a (i .size) (open-abort n some s b i t a) (λ h k j. aborted-fine n some s b i f h t (abort-facts s t k) j)
+      fine-through true s _ _ _ n _ (abort-outcome s t) a (i .size) (open-abort n some s b i t a) (λ h k j. aborted-fine n some s b i f h t (abort-facts s t k) j)
   accepted-fine (lockRead t p) a = let i = here (lockRead t p) refl a in
-      through true s _ _ _ n _ (lock-read-outcome s t p) a (i .size) (open-lock-read n some s b i t p a)
+      fine-through true s _ _ _ n _ (lock-read-outcome s t p) a (i .size) (open-lock-read n some s b i t p a)
       (λ h k j. let g = lock-read-facts s n t p k in quiet-fine n some s b b _ j f h (read-locked-within (s .work) n some (table i h) t p (g .txn) (g .page)) refl refl refl)
   accepted-fine (lockWrite t p) a = let i = here (lockWrite t p) refl a in
-      through true s _ _ _ n _ (lock-write-outcome s t p) a (i .size) (open-lock-write n some s b i t p a)
+      fine-through true s _ _ _ n _ (lock-write-outcome s t p) a (i .size) (open-lock-write n some s b i t p a)
       (λ h k j. let g = lock-write-facts s n t p k in quiet-fine n some s b b _ j f h (write-locked-within (s .work) n some (table i h) t p (g .txn) (g .page)) refl refl refl)
   accepted-fine (read t x buffer) a = let i = here (read t x buffer) refl a in
-      through (eqb (length buffer) slotWords) s _ _ _ n _ (read-outcome s t x buffer) a (i .size) (open-read n some s b i t x buffer a)
+      fine-through (eqb (length buffer) slotWords) s _ _ _ n _ (read-outcome s t x buffer) a (i .size) (open-read n some s b i t x buffer a)
       (λ h k j. let g = read-facts s n t x k in quiet-fine n some s b _ _ j f h
       (learned-within (s .work) n some (table i h) (s .received) t x (h .ranged .received-sound) (g .txn) (g .object .low) (g .object .top) 8 (omega arith)) refl refl refl)
   accepted-fine (create t x) a = let i = here (create t x) refl a in
-      through true s _ _ _ n _ (create-outcome s t x) a (i .size) (open-create n some s b i t x a) (λ h k j. created-fine n some s b i f h t x (create-facts s n t x k) j)
+      fine-through true s _ _ _ n _ (create-outcome s t x) a (i .size) (open-create n some s b i t x a) (λ h k j. created-fine n some s b i f h t x (create-facts s n t x k) j)
   accepted-fine (setWord t x g w) a = let i = here (setWord t x g w) refl a in
-      through true s _ _ _ n _ (set-outcome s t x g w) a (i .size) (open-set n some s b i t x g w a)
+      fine-through true s _ _ _ n _ (set-outcome s t x g w) a (i .size) (open-set n some s b i t x g w a)
       (λ h k j. set-fine n some s b i f h t x g w (set-facts s n t x g w k) _ (ap (λ (p : List ℕ). setOf t x g (wordOf p x g) w) (sym (i .full))) j)
   accepted-fine (flush t p image) a = let i = here (flush t p image) refl a in
-      through (eqb (length image) pageWords) s _ _ _ n _ (flush-outcome s t p image) a (i .size) (open-flush n some s b i t p image a)
+      fine-through (eqb (length image) pageWords) s _ _ _ n _ (flush-outcome s t p image) a (i .size) (open-flush n some s b i t p image a)
       (λ h k j. let g = flush-facts s n t p image k in flushed-fine n some s b i f h t p (g .txn) (g .page) j)
   accepted-fine force a = let i = here force refl a in
-      through true s _ _ _ n _ (force-outcome s) a (i .size) (open-force n some s b i a) (λ h k j. forced-fine n some s b i f h _ refl refl refl j)
+      fine-through true s _ _ _ n _ (force-outcome s) a (i .size) (open-force n some s b i a) (λ h k j. forced-fine n some s b i f h _ refl refl refl j)
   accepted-fine (store p) a = let i = here (store p) refl a in
-      through true s _ _ _ n _ (store-outcome s p) a (i .size) (open-store-page n some s b i p a) (λ h k j. stored-fine n some s b i f h p (store-facts s n p k .page) j)
+      fine-through true s _ _ _ n _ (store-outcome s p) a (i .size) (open-store-page n some s b i p a) (λ h k j. stored-fine n some s b i f h p (store-facts s n p k .page) j)
   accepted-fine empty a = let i = here empty refl a in
-      through true s _ _ _ n _ (empty-outcome s) a (i .size) (open-empty n some s b i a) (λ h k j. emptied-fine n some s b i f h j)
+      fine-through true s _ _ _ n _ (empty-outcome s) a (i .size) (open-empty n some s b i a) (λ h k j. emptied-fine n some s b i f h j)
   accepted-fine (look q) a = rw (look-keeps s q) f
   accepted-fine pass a = let i = here pass refl a in
-      through true s _ _ _ n _ (pass-outcome s) a (i .size) (open-pass n some s b i a) (λ h k j. quiet-fine n some s b b _ j f h (started-within (s .work) n some (table i h)) refl refl refl)
+      fine-through true s _ _ _ n _ (pass-outcome s) a (i .size) (open-pass n some s b i a) (λ h k j. quiet-fine n some s b b _ j f h (started-within (s .work) n some (table i h)) refl refl refl)
   accepted-fine step a = let i = here step refl a in
       let k = step-outcome s .ran a in
       let p = opened true s (k .n) (k .ready) in

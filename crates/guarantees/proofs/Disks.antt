@@ -5,6 +5,7 @@ use mathlib.Core.Path.{_≡_, refl, sym}
 use mathlib.Core.Bool.{true}
 use mathlib.Core.List.{List, []}
 use lib.ListN.{length}
+use Rattle.words.specs.Spans.{zero-at}
 use Rattle.records.specs.Soundness.{recordSound}
 use Rattle.areas.specs.Areas.{Areas, stableCount}
 use Rattle.areas.specs.Entry.{pages, reopening}
@@ -20,7 +21,6 @@ use Rattle.book_laws.specs.Keeping.{Origin}
 use Rattle.book_laws.proofs.Invariant.{blank-inv, stage-inv}
 use Rattle.book_laws.proofs.Members.{each-nil}
 use Rattle.recovery_proof.proofs.Reopening.{recovered-view}
-use Rattle.demand.proofs.Formatted.{zero-at}
 use Rattle.demand.proofs.State.{Waiting, Inv3, cut-store}
 use Rattle.demand.proofs.Stopping.{whole-of}
 use Rattle.demand.proofs.Start.{blank-sound}

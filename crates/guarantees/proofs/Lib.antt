@@ -4,6 +4,7 @@ pub mod Tables
 pub mod Reserve
 pub mod Sound
 pub mod Fine
+pub mod Through
 pub mod Keeps
 pub mod Always
 pub mod Disks
@@ -12,3 +13,7 @@ pub mod Stages
 pub mod Held
 pub mod Chains
 pub mod Committed
+pub mod Ledgers
+pub mod Granted
+pub mod Barred
+pub mod Holders

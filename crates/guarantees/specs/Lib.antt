@@ -1,4 +1,4 @@
--- What document 01 says beside demand 3, as statements.
+-- What documents 01 and 02 say beside demand 3, as statements.
 pub mod Unchanged
 pub mod Stable
 pub mod Disks
@@ -7,3 +7,5 @@ pub mod Refusals
 pub mod Stages
 pub mod Held
 pub mod Chains
+pub mod Ledgers
+pub mod Holders

@@ -4,8 +4,14 @@ use Prim.Native.Nat.{ℕ, _<_}
 use mathlib.Core.Path.{_≡_, refl, sym, ap, _∙_}
 use mathlib.Core.Bool.{Bool, true, false, not, _&&_, _||_}
 use mathlib.Core.List.{List, [], _∷_}
-use lib.Dec.{ltb}
-use Rattle.words.specs.Tests.{if, if-t, if-f, and-true, and-comm}
+use lib.Dec.{eqb, ltb}
+use lib.Bits.{bitOr}
+use lib.Count.{trailingZeros}
+use native.Mathlib.Omega.{arith}
+use Rattle.words.specs.Tests.{if, if-t, if-f, lowest, and-true, and-comm}
+use Rattle.words.specs.Bits.{bit, withBit, withoutBit, with-same, with-other}
+use Rattle.words.specs.Lowest.{lowest-capped, lowest-same, trailing-lowest}
+use Rattle.page_laws.specs.BitLaws.{or-others}
 use Rattle.areas.specs.declared.Refusal.the-variants.{OutOfRange, WrongState, Held}
 use Rattle.areas.specs.declared.Check.{Check}
 use Rattle.areas.specs.declared.Check.the-variants.{Accept, Refuse}
@@ -13,8 +19,8 @@ use Rattle.areas.specs.Answers.{Test, need, verdict, passed, all-passed, need-h
 use Rattle.records.specs.Records.{txnCount}
 use Rattle.areas.specs.Areas.{Areas}
 use Rattle.areas.specs.Layout.{readersAt, writersAt}
-use Rattle.areas.specs.Tables.{gain, lose, isTxn, isActive, canWrite}
-use Rattle.calls.specs.Locks.{noOther, lockReadTests, readLocked, lockWriteTests, writeLocked}
+use Rattle.areas.specs.Tables.{at, gain, lose, isTxn, isActive, canWrite, canRead}
+use Rattle.calls.specs.Locks.{noOther, holderOf, lockReadTests, readLocked, lockWriteTests, writeLocked}
 use Rattle.locks.specs.declared.Way.{Way}
 use Rattle.locks.specs.declared.Way.the-variants.{Clear, Barred}
 use Rattle.store_ops.specs.Tables.{page-range}
@@ -24,36 +30,46 @@ abbrev pub isFree : List ℕ → ℕ → ℕ → ℕ → Bool → Bool
 isFree w n t p writing = noOther w (writersAt n p) t && (not writing || noOther w (readersAt n p) t)
 
 unfoldable pub wayTo : List ℕ → ℕ → ℕ → ℕ → Bool → Way
-wayTo w n t p writing = if (isFree w n t p writing) Clear Barred
+wayTo w n t p writing = let h = Barred (holderOf w n t p) in if (isFree w n t p writing) Clear h
 
 abbrev pub answerTo : Way → Check
 answerTo Clear = Accept
-answerTo Barred = Refuse Held
+answerTo (Barred h) = Refuse (Held h)
 
 -- the tests of both locks
 unfoldable pub lockTests : List ℕ → ℕ → ℕ → ℕ → Bool → List Test
 lockTests w n t p writing =
     need 3 OutOfRange (isTxn t && ltb p n)
     ∷ need 4 WrongState (isActive w t)
-    ∷ need 6 Held (isFree w n t p writing)
+    ∷ need 6 (Held (holderOf w n t p)) (isFree w n t p writing)
     ∷ []
 
--- as the code finds it
-pub no-other-at : (w : List ℕ) (i j t : ℕ) {a : Bool} → a ≡ noOther w i t → i ≡ j → a ≡ noOther w j t
-no-other-at w i j t e place = e ∙ rw place
+-- as the code finds it: the masks without t, and the lowest bit of both together
+module _ (w : List ℕ) (n t p : ℕ) (writing : Bool) {i j r v : ℕ} (hi : i ≡ readersAt n p) (hj : j ≡ writersAt n p) (hr : r ≡ withoutBit (at w i) t) (hv : v ≡ withoutBit (at w j) t) where
+  readers : r ≡ withoutBit (at w (readersAt n p)) t
+  readers = hr ∙ rw hi
 
-module _ (w : List ℕ) (n t p : ℕ) (writing : Bool) {a b : Bool} (ha : a ≡ noOther w (writersAt n p) t) (hb : b ≡ noOther w (readersAt n p) t) where
-  pub way-clear : a && (not writing || b) ≡ true → Clear ≡ wayTo w n t p writing
+  writers : v ≡ withoutBit (at w (writersAt n p)) t
+  writers = hv ∙ rw hj
+
+  pub way-clear : eqb v 0 && (not writing || eqb r 0) ≡ true → Clear ≡ wayTo w n t p writing
   unfolding wayTo
-  way-clear h = rw (← ha, ← hb, h)
+  way-clear h = rw (← readers, ← writers, h)
 
-  pub way-barred : a && (not writing || b) ≡ false → Barred ≡ wayTo w n t p writing
-  unfolding wayTo
-  way-barred h = rw (← ha, ← hb, h)
+  other : (u : ℕ) → bit (bitOr r v) u ≡ (not (eqb u t) && canRead w n u p)
+  other u = rw (readers, writers) (or-others (at w (readersAt n p)) (at w (writersAt n p)) t u)
 
-answered : (b : Bool) → answerTo (if b Clear Barred) ≡ verdict (need 6 Held b ∷ [])
-answered true = all-passed ∙ need-holds _ _ _ _ refl
-answered false = need-fails _ _ _ _ refl
+  pub way-barred : {h : ℕ} → eqb v 0 && (not writing || eqb r 0) ≡ false → h ≡ lowest (bit (bitOr r v)) txnCount → Barred h ≡ wayTo w n t p writing
+  unfolding wayTo holderOf
+  way-barred h e = rw (← readers, ← writers, h) (ap Barred (e ∙ lowest-same (bit (bitOr r v)) (λ u. not (eqb u t) && canRead w n u p) txnCount (λ u l. other u)))
+
+-- a bit above the transactions ends the search for the lowest
+pub lowest-txn : (m x : ℕ) → x ≡ withBit m txnCount → trailingZeros 32 x ≡ lowest (bit m) txnCount
+lowest-txn m x e = trailing-lowest 32 x ∙ rw e (lowest-capped (bit m) (bit (withBit m txnCount)) txnCount 32 (omega arith) (λ i l. with-other m txnCount i (λ z. omega arith)) (with-same m txnCount))
+
+answered : (b : Bool) (h : ℕ) → answerTo (if b Clear (Barred h)) ≡ verdict (need 6 (Held h) b ∷ [])
+answered true h = all-passed ∙ need-holds _ _ _ _ refl
+answered false h = need-fails _ _ _ _ refl
 
 module _ (w : List ℕ) (n t p : ℕ) (writing : Bool) where
   pub lock-outside : isTxn t && ltb p n ≡ false → Refuse OutOfRange ≡ verdict (lockTests w n t p writing)
@@ -66,7 +82,7 @@ module _ (w : List ℕ) (n t p : ℕ) (writing : Bool) where
 
   pub lock-answer : isTxn t && ltb p n ≡ true → isActive w t ≡ true → {y : Way} → y ≡ wayTo w n t p writing → answerTo y ≡ verdict (lockTests w n t p writing)
   unfolding lockTests wayTo
-  lock-answer h a e = ap answerTo e ∙ answered (isFree w n t p writing) ∙ need-holds _ _ _ _ a ∙ need-holds _ _ _ _ h
+  lock-answer h a e = ap answerTo e ∙ answered (isFree w n t p writing) (holderOf w n t p) ∙ need-holds _ _ _ _ a ∙ need-holds _ _ _ _ h
 
   pub lock-passed : verdict (lockTests w n t p writing) ≡ Accept → (t < txnCount) × (p < n)
   unfolding lockTests

@@ -2,9 +2,13 @@
 ghost use mathlib.Core.Path.{_≡_};
 ghost use Prim.Native.Nat.{_<_};
 ghost use lib.ListN.{length};
+ghost use Rattle.words.specs.Tests.{lowest};
+ghost use Rattle.words.specs.Bits.{bit, withoutBit};
+ghost use Rattle.records.specs.Records.{txnCount};
 ghost use Rattle.areas.specs.Answers.{verdict};
 ghost use Rattle.areas.specs.Layout.{HasTables};
-ghost use Rattle.calls.specs.Locks.{noOther, readLocked, writeLocked};
+ghost use Rattle.areas.specs.Tables.{at};
+ghost use Rattle.calls.specs.Locks.{readLocked, writeLocked};
 ghost use Rattle.locks.specs.Checks.{wayTo, lockTests};
 use areas::Check;
 use areas::Refusal;
@@ -12,18 +16,25 @@ use areas::layout;
 use bit_ops::bits;
 use records::TXNS;
 
-// What another transaction's locks leave of the way to a lock.
+// What other transactions' locks leave of the way to a lock: barred, with the lowest of them.
 pub enum Way {
     Clear,
-    Barred,
+    Barred(u32),
 }
 
-// Whether nobody but t is in the mask at word i.
-fn no_other(w: &[u32], i: usize, t: u32) -> bool
+// The mask at word i without t.
+fn others(w: &[u32], i: usize, t: u32) -> u32
     requires { ⌜ (i < length (now w)) × (t < 32) ⌝ }
-    ensures { λ r. ⌜ r ≡ noOther (now (w .entry)) i t ⌝ }
+    ensures { λ r. ⌜ r ≡ withoutBit (at (now (w .entry)) i) t ⌝ }
 {
-    bits::without_bit(w[i], t as usize) == 0
+    bits::without_bit(w[i], t as usize)
+}
+
+// The lowest transaction of mask m, or their number: a bit above them all ends the search there.
+fn lowest_of(m: u32) -> u32
+    ensures { λ r. ⌜ r ≡ lowest (bit m) txnCount ⌝ }
+{
+    u32::trailing_zeros(bits::with_bit(m, TXNS as usize))
 }
 
 // The way to t's lock on page p of n: no other may write it, nor read it where t wants to write.
@@ -31,12 +42,12 @@ fn way_to(w: &[u32], n: usize, t: u32, p: usize, writing: bool) -> Way
     requires { ⌜ HasTables (now w) n × (p < n) × (t < 32) ⌝ }
     ensures { λ r. ⌜ r ≡ wayTo (now (w .entry)) n t p writing ⌝ }
 {
-    if no_other(w, layout::writers_at(n, p), t)
-        & (!writing | no_other(w, layout::readers_at(n, p), t))
-    {
+    let readers = others(w, layout::readers_at(n, p), t);
+    let writers = others(w, layout::writers_at(n, p), t);
+    if (writers == 0) & (!writing | (readers == 0)) {
         Way::Clear
     } else {
-        Way::Barred
+        Way::Barred(lowest_of(readers | writers))
     }
 }
 
@@ -55,7 +66,7 @@ pub fn lock_check(w: &[u32], n: usize, t: u32, p: u32, writing: bool) -> Check
     let way = way_to(w, n, t, page, writing);
     match way {
         Way::Clear => Check::Accept,
-        Way::Barred => Check::Refuse(Refusal::Held),
+        Way::Barred(h) => Check::Refuse(Refusal::Held(h)),
     }
 }
 

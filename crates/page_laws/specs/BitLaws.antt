@@ -1,15 +1,15 @@
 -- What the code does to words, as the bits of the definitions. Assumes nothing.
-use Prim.Native.Nat.{ℕ, zero, suc, _+_, _*_, _-_, _/_, _%_, _^_, _<_, _≤_, min}
+use Prim.Native.Nat.{ℕ, zero, suc, _+_, _*_, _-_, _/_, _%_, _^_, _<_, _≤_, min, max}
 use mathlib.Core.Path.{_≡_, refl, sym, ap, _∙_}
-use mathlib.Core.Bool.{Bool, not, _&&_}
+use mathlib.Core.Bool.{Bool, true, false, not, _&&_, _||_}
 use lib.Dec.{eqb, ltb}
 use lib.Bits.{bitOr, and-step, or-step, or-zero-r, or-add-and, and-le-l, and-le-r}
-use native.Mathlib.Nat.{pow-suc, min-le-left}
+use native.Mathlib.Nat.{pow-suc, min-le-left, max-le}
 use native.Mathlib.Decide.{ℕ-discrete}
 use native.Mathlib.Omega.{arith}
 use borrow.Author.Tests.{eqb-true, eq-eqb, eqb-false, ltb-true, ltb-false, lt-ltb, le-ltb}
-use Rattle.words.specs.Tests.{if, by-bool, clash, and-true, and-false}
-use Rattle.words.specs.Bits.{bit, withBit, withoutBit, bit-low, bit-next, bit-le, without-same, without-other, without-le, bit-above, bits-same}
+use Rattle.words.specs.Tests.{if, by-bool, and-true, and-false}
+use Rattle.words.specs.Bits.{bit, withBit, withoutBit, bit-low, bit-next, without-same, without-other, bit-without, without-le, bit-above, bits-same}
 use Rattle.pages.specs.Geometry.{slotCount}
 
 by-digit : (P : ℕ → Type 0) → P 0 → P 1 → (x : ℕ) → x < 2 → P x
@@ -48,6 +48,30 @@ or-without m k = rw (or-bit k m) (by-bool (bit m k) (λ e. rw e) (λ e. rw e (om
 
 pub or-le-r : (a b : ℕ) → b ≤ bitOr a b
 or-le-r a b = let s = or-add-and a b in let l = and-le-l a b in omega arith
+
+-- the bits of two words together
+pub or-bits : (a b j : ℕ) → bit (bitOr a b) j ≡ (bit a j || bit b j)
+or-bits a b zero = bit-low (bitOr a b) ∙ rw (bit-low a, bit-low b, or-step a b)
+    (let m : max (a % 2) (b % 2) ≤ 1 = max-le (omega arith) (omega arith) in
+    let t : (bitOr (a / 2) (b / 2) * 2 + max (a % 2) (b % 2)) % 2 ≡ max (a % 2) (b % 2) = omega arith in
+    rw t (low (a % 2) (b % 2) (omega arith) (omega arith)))
+  where
+    low : (x y : ℕ) → x < 2 → y < 2 → eqb (max x y) 1 ≡ (eqb x 1 || eqb y 1)
+    low x y hx hy = by-digit (λ (x : ℕ). eqb (max x y) 1 ≡ (eqb x 1 || eqb y 1))
+        (by-digit (λ (y : ℕ). eqb (max 0 y) 1 ≡ (eqb 0 1 || eqb y 1)) refl refl y hy)
+        (by-digit (λ (y : ℕ). eqb (max 1 y) 1 ≡ (eqb 1 1 || eqb y 1)) refl refl y hy) x hx
+or-bits a b (suc j) = bit-next (bitOr a b) j
+    ∙ ap (λ (x : ℕ). bit x j) (let s = or-step a b in let m : max (a % 2) (b % 2) ≤ 1 = max-le (omega arith) (omega arith) in
+    let e : bitOr a b / 2 ≡ bitOr (a / 2) (b / 2) = omega arith in e)
+    ∙ or-bits (a / 2) (b / 2) j ∙ rw (bit-next a j, bit-next b j)
+
+-- those of two masks together, without t's
+pub or-others : (a b t u : ℕ) → bit (bitOr (withoutBit a t) (withoutBit b t)) u ≡ (not (eqb u t) && (bit a u || bit b u))
+or-others a b t u = or-bits (withoutBit a t) (withoutBit b t) u ∙ rw (bit-without a t u, bit-without b t u) (either (bit a u) (bit b u) (not (eqb u t)))
+  where
+    either : (x y z : Bool) → (x && z || y && z) ≡ (z && (x || y))
+    either x y true = rw (and-true x, and-true y)
+    either x y false = rw (and-false x, and-false y)
 
 -- 'map of freed slots': the map w without the bits below k that m has
 unfoldable pub clearBits : ℕ → ℕ → ℕ → ℕ

@@ -1,8 +1,8 @@
 -- The queue of a walk: it starts with no object found, and an object that enters it is marked. Assumes nothing.
-use Prim.Native.Nat.{ℕ, zero, suc, _+_, _-_, _<_, _≤_}
+use Prim.Native.Nat.{ℕ, _+_, _-_, _<_, _≤_}
 use native.Mathlib.Omega.{arith}
 use native.Mathlib.Decide.{ℕ-discrete}
-use mathlib.Core.Path.{_≡_, refl, sym, ap, _∙_}
+use mathlib.Core.Path.{_≡_, sym, ap, _∙_}
 use mathlib.Core.Bool.{false, not}
 use lib.Dec.{eqb}
 use lib.ListN.{getD, set, replicate, length-set, length-replicate}
@@ -11,14 +11,10 @@ use borrow.Author.Tests.{ne-eqb}
 use Rattle.words.specs.Tests.{clash}
 use Rattle.pages.specs.Geometry.{objectCount}
 use Rattle.reach_walk.specs.Walk.{Walk, walk, mark, Marked, Consistent, Grown}
+use Rattle.words.specs.Spans.{zero-at}
 use Rattle.words.specs.Counts.{count-none, count-most, count-less, count-more}
 
 -- nothing is marked at the start
-zeros : (k i : ℕ) → _≡_ {A = ℕ} (getD (replicate k 0) i 0) 0
-zeros zero i = refl
-zeros (suc k) zero = refl
-zeros (suc k) (suc i) = zeros k i
-
 pub start : (E : ℕ → Type 0) (n k : ℕ) → objectCount n ≤ k → Consistent E n (walk (replicate k 0) (replicate k 0) 0)
 start E n k b = record {
   mark-room = simp length-replicate b;
@@ -29,7 +25,7 @@ start E n k b = record {
 }
   where
     unmarked : (i : ℕ) → not (eqb (getD (replicate k 0) i 0) 0) ≡ false
-    unmarked i = rw (zeros k i)
+    unmarked i = rw (zero-at k i)
 
 -- there is room while an object is not marked
 pub room : {E : ℕ → Type 0} {n : ℕ} {w : Walk} → Consistent E n w → (x : ℕ) → 1 ≤ x → x ≤ objectCount n → mark w (x - 1) ≡ false → w .tail < objectCount n

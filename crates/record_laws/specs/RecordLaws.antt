@@ -12,7 +12,7 @@ use native.Mathlib.Decide.{ℕ-discrete}
 use native.Mathlib.Numerals.{add-one}
 use native.Mathlib.Omega.{arith}
 use borrow.Author.Tests.{ltb-true, leb-true, eqb-true, eqb-false, lt-ltb, le-leb, eq-eqb, ne-eqb, not-true, lt-leb}
-use Rattle.words.specs.Tests.{if, all, any, by-bool, clash, if-t, if-f, and-t, and-f, and-false, and-l, and-r, or-cases, or-false-l, or-false-r, all-at, all-end, all-next, all-stop, all-intro, any-next}
+use Rattle.words.specs.Tests.{if, all, any, by-bool, clash, if-t, if-f, and-t, and-f, and-false, and-l, and-r, or-cases, or-false-l, or-false-r, all-at, all-end, all-next, all-stop, all-intro, any-next, any-same}
 use Rattle.words.specs.Bits.{bit}
 use Rattle.pages.specs.Geometry.{isObject, objectCount, slotWords, slotCount, mapTop}
 use Rattle.page_laws.specs.Places.{object-range}
@@ -41,11 +41,6 @@ or-map false f h = f h
 
 pub or-f : (a b : Bool) → a ≡ false → a || b ≡ b
 or-f a b e = rw e
-
-any-same : (f g : ℕ → Bool) (n : ℕ) → ((i : ℕ) → i < n → f i ≡ g i) → any f n ≡ any g n
-unfolding any
-any-same f g zero h = refl
-any-same f g (suc n) h = rw (any-same f g n (λ i l. h i (omega arith)), h n (omega arith))
 
 -- a record written
 

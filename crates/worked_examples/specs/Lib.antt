@@ -2,3 +2,4 @@
 pub mod Table
 pub mod Numbers
 pub mod Chains
+pub mod Holders

@@ -1,5 +1,6 @@
 -- Document 01, 'Agreement': 'The fourteen examples of the refusal table, each on the bench store unless it says otherwise and after the begins
--- and locks it needs, and the bench input stand in a table proved by a single statement over it'. Assumes nothing.
+-- and locks it needs, and the bench input stand in a table proved by a single statement over it'; and one of document 02's L2.
+-- Assumes nothing.
 use Prim.Native.Nat.{ℕ}
 use mathlib.Core.Path.{_≡_, refl}
 use mathlib.Core.Bool.{Bool, true, false, _&&_}
@@ -37,20 +38,21 @@ sameAreas a b =
     sameWords (a .stored) (b .stored) && sameWords (a .copies) (b .copies) && sameWords (a .received) (b .received)
     && sameWords (a .log) (b .log) && sameWords (a .counts) (b .counts) && sameWords (a .work) (b .work)
 
--- a row: a store, the calls before, which must all be accepted, and a call that is refused with this number; a refused read, with its
--- transaction, its object and its buffer; or an input and its output
+-- a row: a store, the calls before, which must all be accepted, and a call that is refused with this number, or with 6 and this holder; a
+-- refused read, with its transaction, its object and its buffer; or an input and its output
 pub data Row : Type 0 where
   refusal : ℕ → Areas → List Call → Call → Row
+  barred : ℕ → Areas → List Call → Call → Row
   refusedRead : ℕ → Areas → List Call → ℕ → ℕ → List ℕ → Row
   bench : List ℕ → List ℕ → Row
 
--- the last call is refused with the number, its value is 0, and every word stays
-unfoldable pub refusedBy : ℕ → Areas → Call → Bool
-refusedBy x s c = let o = perform s c in eqb (answerOf (o .answer)) x && eqb (valueOf (o .answer)) 0 && sameAreas (o .after) s
+-- the last call is refused with this number and this value, and every word stays
+unfoldable pub refusedBy : ℕ → ℕ → Areas → Call → Bool
+refusedBy x v s c = let o = perform s c in eqb (answerOf (o .answer)) x && eqb (valueOf (o .answer)) v && sameAreas (o .after) s
 
 -- 'every buffer keeps its bytes': a read's too
 unfoldable pub readRefusedBy : ℕ → Areas → ℕ → ℕ → List ℕ → Bool
-readRefusedBy x s t o buffer = refusedBy x s (read t o buffer) && sameWords (bufferAfter s t o buffer) buffer
+readRefusedBy x s t o buffer = refusedBy x 0 s (read t o buffer) && sameWords (bufferAfter s t o buffer) buffer
 
 -- these calls are accepted, and then the test holds of the store
 unfoldable pub after : List Call → (Areas → Bool) → Areas → Bool
@@ -59,7 +61,8 @@ after (b ∷ bs) f s = let o = perform s b in let on = after bs f (o .after) in 
 
 -- a row of the table is right
 unfoldable pub right : Row → Bool
-right (refusal x s bs c) = after bs (λ a. refusedBy x a c) s
+right (refusal x s bs c) = after bs (λ a. refusedBy x 0 a c) s
+right (barred h s bs c) = after bs (λ a. refusedBy 6 h a c) s
 right (refusedRead x s bs t o buffer) = after bs (λ a. readRefusedBy x a t o buffer) s
 right (bench input output) = sameWords (benchOutput input) output
 
@@ -84,6 +87,7 @@ table =
     ∷ refusal 4 benchStore [] (commit 3)
     ∷ refusedRead 5 benchStore (begin 0 ∷ []) 0 1 (replicate 8 7)
     ∷ refusal 6 benchStore (begin 0 ∷ begin 1 ∷ lockWrite 0 0 ∷ []) (lockWrite 1 0)
+    ∷ barred 1 benchStore (begin 0 ∷ begin 1 ∷ lockWrite 1 0 ∷ []) (lockWrite 0 0)
     ∷ refusal 7 benchStore (begin 0 ∷ lockWrite 0 0 ∷ []) (setWord 0 1 0 9)
     ∷ refusal 8 benchStore (begin 0 ∷ lockWrite 0 0 ∷ []) (create 0 1)
     ∷ refusal 9 benchStore (begin 0 ∷ lockWrite 0 0 ∷ []) (flush 0 0 (set image 5 7))

@@ -27,8 +27,8 @@ const CALLS: [(&str, &str, &str, &str); 18] = [
         "11: a record for each change and one to end must fit. The changes are undone, newest first; the copies \
          of the pages that t has locked for writing become the received pages; t leaves every mask",
     ),
-    ("lock_read", "4 words", "1 word", "2, 4; 6: no other writes the page; t reads it, unless it writes it"),
-    ("lock_write", "4 words", "2 words", "2, 4; 6: no other reads or writes the page; t writes it, and reads it no more"),
+    ("lock_read", "4 words", "1 word", "2, 4; 6: no other writes the page, else who has it is told; t reads it, unless it writes it"),
+    ("lock_write", "4 words", "2 words", "2, 4; 6: no other reads or writes the page, else who has it is told; t writes it, and reads it no more"),
     (
         "read",
         "5 words; the object's 8; a mask for each reference",

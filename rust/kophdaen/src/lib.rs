@@ -8,7 +8,8 @@
 //! word first, and answer the same.
 //! docs/CALLING.md has the refusals, what to write to the disk and when, and names two complete programs.
 
-/// What a call answered: 0 or a refusal's number, and the value (0 where refused).
+/// What a call answered: 0 or a refusal's number, and the value. A refusal's value is 0, but that of 6,
+/// which is the [holder](Answer::holder).
 #[derive(Clone, Copy, PartialEq, Eq, Debug)]
 pub struct Answer {
     pub number: u32,
@@ -27,6 +28,12 @@ impl Answer {
 
     pub fn accepted(self) -> bool {
         self.number == 0
+    }
+
+    /// Of a lock refused with 6, whom to call: the lowest-numbered other transaction with any lock on the
+    /// page, for reading or for writing. No other answer has one.
+    pub fn holder(self) -> Option<u32> {
+        (self.number == 6).then_some(self.value)
     }
 }
 

@@ -42,10 +42,12 @@ impl Store {
         lend!(self, kophdaen_abort, t)
     }
 
+    /// A lock for reading. Where it is refused with 6, [`Answer::holder`] tells whom to call.
     pub fn lock_read(&mut self, t: u32, page: u32) -> Answer {
         lend!(self, kophdaen_lock_read, t, page)
     }
 
+    /// A lock for writing. Where it is refused with 6, [`Answer::holder`] tells whom to call.
     pub fn lock_write(&mut self, t: u32, page: u32) -> Answer {
         lend!(self, kophdaen_lock_write, t, page)
     }

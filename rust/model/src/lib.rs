@@ -1,5 +1,5 @@
-//! Document 01's page server and collector, and document 02's L1, over the same lent words as the
-//! proved library.
+//! Document 01's page server and collector, and document 02's L1 and L2, over the same lent words
+//! as the proved library.
 //!
 //! Written from documents 01 and 02, docs/LAYOUT.md and docs/DECISIONS.md, not from the library's source.
 //! Each call tests its refusals in the order of the refusal table, then acts; `?` leaves the call
@@ -7,6 +7,7 @@
 
 mod chain;
 pub mod faults;
+mod holder;
 pub mod layout;
 pub mod recover;
 pub mod sound;
@@ -18,14 +19,27 @@ use recover::{free_map, recovered, take_effect};
 use sound::in_range;
 pub use whole::whole;
 
-/// The value of an accepted call, or the number of the refusal.
-pub type Answer = Result<u32, u32>;
+/// The value of an accepted call, or the refusal.
+pub type Answer = Result<u32, Refusal>;
+
+#[derive(Clone, Copy, PartialEq, Eq, Debug)]
+pub struct Refusal {
+    pub number: u32,
+    pub value: u32,
+}
+
+/// "a refusal's value is 0", but that of 6 (document 02, L2).
+impl From<u32> for Refusal {
+    fn from(number: u32) -> Refusal {
+        Refusal { number, value: 0 }
+    }
+}
 
 /// An answer as the library's C functions give it: answer number x 2^32 + value.
 pub fn coded(answer: Answer) -> u64 {
     match answer {
         Ok(value) => u64::from(value),
-        Err(number) => u64::from(number) << 32,
+        Err(Refusal { number, value }) => u64::from(number) << 32 | u64::from(value),
     }
 }
 
@@ -101,17 +115,17 @@ impl Model {
     }
 
     /// Refusal 5 where t has neither lock on the page.
-    fn either_lock(&self, t: u32, page: usize) -> Result<(), u32> {
+    fn either_lock(&self, t: u32, page: usize) -> Result<(), Refusal> {
         let locks = self.areas.get(Table::Readers, page) | self.areas.get(Table::Writers, page);
-        refuse(5, locks & bit(t) == 0)
+        self.must_have(t, page, locks)
     }
 
-    fn write_lock(&self, t: u32, page: usize) -> Result<(), u32> {
+    fn write_lock(&self, t: u32, page: usize) -> Result<(), Refusal> {
         let mut locks = self.areas.get(Table::Writers, page);
         if self.has(Fault::WritesUnderReadLock) {
             locks |= self.areas.get(Table::Readers, page);
         }
-        refuse(5, locks & bit(t) == 0)
+        self.must_have(t, page, locks)
     }
 
     fn knows(&self, t: u32, object: u32) -> bool {
@@ -317,8 +331,7 @@ impl Model {
         self.page(page)?;
         self.must_be_active(t)?;
         let page = page as usize;
-        let writers = self.areas.get(Table::Writers, page);
-        refuse(6, writers & !bit(t) != 0)?;
+        self.not_held(t, page, Table::Readers, self.areas.get(Table::Writers, page))?;
 
         // "a writer that asks to read stays the writer"
         if self.has(Fault::WriterThatReadsBecomesReader) {
@@ -342,7 +355,9 @@ impl Model {
             locks |= self.areas.get(Table::Readers, page);
         }
         let held = self.areas.get(Table::Writers, page) & bit(t) != 0;
-        refuse(6, locks & !bit(t) != 0 && !(self.has(Fault::HeldBeforeOthers) && held))?;
+        if !(self.has(Fault::HeldBeforeOthers) && held) {
+            self.not_held(t, page, Table::Writers, locks)?;
+        }
 
         // Becoming the writer clears the reader's bit (DECISIONS 16), also where both bits were set,
         // which no calls lead to; document 01 and DECISIONS leave that case open.
@@ -564,7 +579,7 @@ impl Model {
     pub fn pass_step(&mut self) -> Answer {
         self.ready()?;
         match self.areas.work[PHASE] {
-            NO_PASS => Err(4),
+            NO_PASS => Err(4.into()),
             MARKING => self.marking_step(),
             _ => self.sweeping_step(),
         }

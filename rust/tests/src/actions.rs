@@ -123,6 +123,8 @@ pub enum Filling {
     Sound,
     /// As `Sound`, with copies in which many chains of references lead from the root to an object.
     Linked,
+    /// As `Sound`, with locks of several transactions on a page, together as no calls grant them.
+    Contended,
     /// Sound stored pages and a stable log in order, for reopening; the rest as `Noise`.
     Reopening,
     /// As `Reopening`, with one word of the log or the stored pages damaged.

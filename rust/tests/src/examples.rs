@@ -1,11 +1,12 @@
 //! Document 01's fourteen examples of the refusal table, its bench input and its cases on L, each
-//! with the answers that the document gives; and the examples of chains.
+//! with the answers that the document gives; and the examples of chains and of holders.
 
 use calls::Call::*;
 use model::layout::*;
 
 use crate::actions::*;
 use crate::chains;
+use crate::holders;
 use crate::run::*;
 use crate::sides::Kind;
 
@@ -130,7 +131,7 @@ fn made(pair: &mut Pair, Step { action, number, value, buffer }: &Step) -> Resul
 /// Runs every example on both sides: how many calls, or what went wrong.
 pub fn run(left: Kind, right: Kind) -> Result<u64, String> {
     let mut calls = 0;
-    let examples = [refusals(), room(), vec![bench()], chains::examples()];
+    let examples = [refusals(), room(), vec![bench()], chains::examples(), holders::examples()];
     for Example { name, pages, records, steps } in examples.into_iter().flatten() {
         let mut pair = Pair::new(left, right, pages, records);
         for step in [ok(Format, 0)].iter().chain(&steps) {

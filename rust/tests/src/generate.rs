@@ -33,8 +33,8 @@ pub struct Generator {
     restore: Option<(usize, Action)>,
     /// A call to be made so many times more.
     burst: (Call, usize),
-    /// The objects whose chains are still to be asked for.
-    asking: Vec<u32>,
+    /// What is still to be asked of areas just filled.
+    asking: Vec<Call>,
     begun: bool,
 }
 
@@ -88,13 +88,24 @@ impl Generator {
     }
 
     /// Areas so filled. Where they are linked, every object's chain is asked for then, in no order, and that of
-    /// two that are none.
+    /// two that are none; where pages are contended, locks.
     fn fill(&mut self, filling: Filling, a: &Areas) -> Action {
         self.burst.1 = 0;
-        if filling == Filling::Linked {
-            self.asking = (0..=a.objects() + 1).collect();
-        }
+        self.asking = match filling {
+            Filling::Linked => (0..=a.objects() + 1).map(Call::Chain).collect(),
+            Filling::Contended => (0..30).map(|_| self.any_lock(a)).collect(),
+            _ => Vec::new(),
+        };
         Action::Fill(filling, self.random.next())
+    }
+
+    fn any_lock(&mut self, a: &Areas) -> Call {
+        let (t, page) = (self.random.below(16) as u32, self.random.below(a.pages()) as u32);
+        if self.random.percent(50) {
+            Call::LockRead(t, page)
+        } else {
+            Call::LockWrite(t, page)
+        }
     }
 
     fn resized(&mut self, a: &Areas, request: Request) -> Action {
@@ -155,7 +166,10 @@ impl Generator {
     fn call(&mut self, a: &Areas) -> Request {
         if !self.asking.is_empty() {
             let next = self.random.below(self.asking.len());
-            return chain(self.asking.swap_remove(next), &mut self.random);
+            return match self.asking.swap_remove(next) {
+                Call::Chain(object) => chain(object, &mut self.random),
+                call => call.into(),
+            };
         }
         if self.burst.1 > 0 {
             self.burst.1 -= 1;
@@ -485,7 +499,7 @@ pub fn plan(random: &mut Random, scope: Scope) -> (usize, usize, Style, usize) {
     let calls = match style.filling {
         None if large => random.between(200, 3000),
         None => random.between(100, 1200),
-        Some(Filling::Sound | Filling::Linked) => random.between(100, 900),
+        Some(Filling::Sound | Filling::Linked | Filling::Contended) => random.between(100, 900),
         Some(_) => random.between(20, 300),
     };
     (pages, records, style, calls)
@@ -521,8 +535,8 @@ fn style(random: &mut Random, scope: Scope) -> Style {
     let crowd = random.pick(&[1, 1, 2, 2, 3, 3, 5, 16]).unwrap();
     let plain = Style { cuts: 3, damage: 0, lengths: 4, wild: 40, crowd, building: false, filling: None };
     let styles = match scope {
-        Scope::Legal => [45, 20, 25, 0, 0, 0, 0, 0, 0],
-        _ => [45, 20, 15, 15, 20, 2, 10, 6, 12],
+        Scope::Legal => [45, 20, 25, 0, 0, 0, 0, 0, 0, 0],
+        _ => [45, 20, 15, 15, 20, 2, 10, 6, 12, 5],
     };
     match random.weighted(&styles) {
         0 => plain,
@@ -533,6 +547,7 @@ fn style(random: &mut Random, scope: Scope) -> Style {
         5 => Style { wild: 600, filling: Some(Filling::Noise), ..plain },
         6 => Style { filling: Some(Filling::Reopening), ..plain },
         7 => Style { filling: Some(Filling::Damaged), ..plain },
-        _ => Style { damage: 30, lengths: 10, filling: Some(Filling::Linked), ..plain },
+        8 => Style { damage: 30, lengths: 10, filling: Some(Filling::Linked), ..plain },
+        _ => Style { damage: 30, filling: Some(Filling::Contended), ..plain },
     }
 }

@@ -16,6 +16,7 @@ mod chains;
 mod examples;
 mod generate;
 mod graphs;
+mod holders;
 mod open;
 mod oracle;
 mod power;

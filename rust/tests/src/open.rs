@@ -4,7 +4,7 @@
 use calls::{Call, Server};
 use kophdaen::{Held, NotHeld, CHAIN_WORDS, OBJECT_WORDS};
 use model::layout::*;
-use model::{whole, Fault, Model};
+use model::{whole, Fault, Model, Refusal};
 
 use crate::actions::{Action, Filling};
 use crate::generate::{size, Generator, Style};
@@ -63,7 +63,7 @@ fn opened(disk: &Disk) -> Result<Areas, NotHeld> {
     model.areas.log[..disk.stable.len()].copy_from_slice(&disk.stable);
     model.areas.counts[STABLE_COUNT] = (disk.stable.len() / RECORD_WORDS) as u32;
     match model.reopen() {
-        Err(1) => Err(NotHeld::Lengths),
+        Err(Refusal { number: 1, .. }) => Err(NotHeld::Lengths),
         Err(_) => Err(NotHeld::Unsound),
         Ok(_) if whole(&model.areas.received, Fault::None) != Ok(1) => Err(NotHeld::NotWhole),
         Ok(_) => Ok(model.areas),

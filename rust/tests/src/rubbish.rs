@@ -13,6 +13,7 @@ pub fn fill(filling: Filling, seed: u64, pages: usize, records: usize) -> Areas 
         Filling::Noise => noise(&mut areas, &mut random),
         Filling::Sound => sound(&mut areas, &mut random),
         Filling::Linked => linked(&mut areas, &mut random),
+        Filling::Contended => contended(&mut areas, &mut random),
         Filling::Reopening => reopening(&mut areas, &mut random),
         Filling::Damaged => {
             reopening(&mut areas, &mut random);
@@ -120,6 +121,26 @@ fn linked(areas: &mut Areas, random: &mut Random) {
         let at = random.below(areas.copies.len());
         areas.copies[at] = odd_word(areas.copies[at], pages, random);
     }
+}
+
+/// Most transactions are active, and a few, active or not, have locks on each page.
+fn contended(areas: &mut Areas, random: &mut Random) {
+    sound(areas, random);
+    areas.work[ACTIVE] = 0xffff & !mask(random, 4);
+    (0..areas.pages()).for_each(|page| several_holders(areas, page, random));
+}
+
+/// Each of them has either lock or both; or all of them read.
+fn several_holders(areas: &mut Areas, page: usize, random: &mut Random) {
+    let most = if random.percent(25) { 1 } else { 3 };
+    let [mut readers, mut writers] = [0, 0];
+    for _ in 0..random.between(1, 4) {
+        let (holder, locks) = (bit(random.below(16) as u32), random.between(1, most) as u32);
+        readers |= holder * (locks & 1);
+        writers |= holder * (locks >> 1);
+    }
+    *areas.page_table(Table::Readers, page) = readers;
+    *areas.page_table(Table::Writers, page) = writers;
 }
 
 fn sound_log(areas: &mut Areas, random: &mut Random) {

@@ -2,17 +2,18 @@
 use native.Mathlib.Omega.{arith}
 use mathlib.Core.Path.{refl, ap, _∙_}
 use borrow.Author.Tests.{not-true, not-false}
+use Rattle.words.specs.Spans.{zero-at}
 use Rattle.pages.specs.Geometry.{objectCount, maxPages}
 use Rattle.reach.specs.Search.{chainIn}
 use Rattle.chain_search.specs.Showing.{clearedFrom}
-use Rattle.chain_search.proofs.Ends.{ended-so, ended-not, zeros}
+use Rattle.chain_search.proofs.Ends.{ended-so, ended-not}
 use Rattle.chain_search.proofs.Shown.{none-shown, traced-length, chain-shown}
 use borrow.Author.Needs.{needs}
 use Rattle.chain_search.proofs.chain_apply.Statement.{statement}
 use Rattle.chain_search.proofs.chain_apply.Tie as tie
 
 search-requires : tie.Need-search-requires
-search-requires c κs = let p = c .before .before .before .before .pre in (record { exact = p .0; some = p .1; few = p .2; sound = p .3 }, p .4, zeros (objectCount maxPages), omega arith, omega arith)
+search-requires c κs = let p = c .before .before .before .before .pre in (record { exact = p .0; some = p .1; few = p .2; sound = p .3 }, p .4, zero-at (objectCount maxPages), omega arith, omega arith)
 
 returns : tie.Need-returns
 returns c = let e = ended-not (c .before .before .before .before .before .before .before .before .before .before .args .copies .now) (c .before .before .before .before .before .before .before .before .before .before .args .n) (c .before .before .before .before .before .before .before .before .before .before .args .o) (c .before .before .before .before .before .search .last .1 .1 .0) (c .before .before .before .before .before .search .result) (c .before .before .before .before .before .search .ensures .0) (not-true _ (c .before .before .before .before .if1 .taken)) in rw e (refl, c .before .before .clear .ensures ∙ none-shown _ (c .before .before .before .before .before .before .before .before .before .before .pre .5))

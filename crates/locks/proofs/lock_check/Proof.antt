@@ -23,7 +23,7 @@ returns-3 : tie.Need-returns-3
 returns-3 c = ap answerTo (sym (c .enum-told .given .1)) ∙ lock-answer _ _ _ _ _ (not-false _ (c .before .before .before .before .before .if1 .left)) (sym (c .before .before .before .before .has .ensures) ∙ not-false _ (c .before .before .before .if2 .left)) (c .before .before .way-to .ensures)
 
 returns-4 : tie.Need-returns-4
-returns-4 c = ap answerTo (sym (c .enum-told2 .given .1)) ∙ lock-answer _ _ _ _ _ (not-false _ (c .before .before .before .before .before .if1 .left)) (sym (c .before .before .before .before .has .ensures) ∙ not-false _ (c .before .before .before .if2 .left)) (c .before .before .way-to .ensures)
+returns-4 c = ap answerTo (sym (c .before .way .given .1)) ∙ lock-answer _ _ _ _ _ (not-false _ (c .before .before .before .before .before .before .if1 .left)) (sym (c .before .before .before .before .before .has .ensures) ∙ not-false _ (c .before .before .before .before .if2 .left)) (c .before .before .before .way-to .ensures)
 
 pub lock-check-spec : {M : Type 1} → statement M
 lock-check-spec =
