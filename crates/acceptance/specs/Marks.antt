@@ -1,9 +1,8 @@
 -- Document 02, L3: what an accepted mark and an accepted going back know. n is the number of pages. Assumes nothing.
 use Prim.Native.Nat.{ℕ, _+_, _<_, _≤_}
 use mathlib.Core.Path.{_≡_}
-use mathlib.Core.Bool.{true, false}
+use mathlib.Core.Bool.{true}
 use lib.ListN.{length}
-use lib.Dec.{eqb}
 use borrow.Author.Tests.{ltb-true, leb-true, eqb-false, not-true}
 use Rattle.words.specs.Tests.{and-split}
 use Rattle.records.specs.Records.{txnCount}
