@@ -104,6 +104,10 @@ module _ (w : List ℕ) (n c t : ℕ) where
     unfolding objectBit
     object-gain s = bits-gain (isObject n) (byObject c) w t x (omega arith) (λ y. object-apart n c x y low) s (is-object n x low top)
 
+    pub object-lose : objectBit (lose w (byObject c x) t) n (byObject c) ≡ remove (objectBit w n (byObject c)) t x
+    unfolding objectBit
+    object-lose = bits-lose (isObject n) (byObject c) w t x (omega arith) (λ y. object-apart n c x y low)
+
   pub page-drop : (v : List ℕ) → ((p : ℕ) → p < n → at v (c + p) ≡ withoutBit (at w (c + p)) t) → pageBit v n (byPage c) ≡ drop (pageBit w n (byPage c)) t
   unfolding pageBit
   page-drop v e = bits-drop (λ q. ltb q n) (byPage c) w v t (λ m. withoutBit m t) (λ m u s. bit-without m t u) (λ p l. e p (ltb-true p n l))
