@@ -3,7 +3,7 @@
 use Prim.Native.Nat.{ℕ, zero, suc, _+_}
 use native.Mathlib.Omega.{arith}
 use mathlib.Core.Path.{_≡_, refl, sym, ap, _∙_}
-use mathlib.Core.Bool.{Bool, true, false, _&&_, _||_}
+use mathlib.Core.Bool.{Bool, true, false, not}
 use mathlib.Core.List.{List, [], _∷_}
 use mathlib.Core.Logic.{inl, inr}
 use lib.ListN.{length}
@@ -11,7 +11,7 @@ use lib.Dec.{eqb}
 use borrow.Author.Tests.{eqb-true, eq-eqb, ne-eqb, eqb-false}
 use Rattle.words.specs.Tests.{if, by-bool, clash, or-cases, or-r}
 use Rattle.records.specs.declared.Record.{Record}
-use Rattle.records.specs.Records.{isSweep}
+use Rattle.records.specs.Records.{isCreate}
 use Rattle.machine_view.specs.View.{applied, unapplied, names}
 use Rattle.book.specs.Lines.{Line, struckOut, isLeft, left, struckNewest, filtered}
 use Rattle.book.specs.Pointers.{makesOrFrees}
@@ -80,6 +80,7 @@ module _ (a : List ℕ) (c : Line → Bool) (i : ℕ) where
           object = q .object;
           was = seen-strikes a c k (u .o) s (λ m j d. every-first (h m (Keeping.later j) d)) ∙ q .was;
           fits = q .fits;
+          there = q .there;
         })
         (backs-strikes us s (λ m j d. every-rest (h m (Keeping.later j) d)) b)
     backs-strikes (u ∷ us) (out {l} d s) h (here e p q b) = absurd (other l e d)
@@ -90,6 +91,7 @@ module _ (a : List ℕ) (c : Line → Bool) (i : ℕ) where
     pub top : Newest i ls l
     pub object : l .entry .object ≡ u .o
     pub fits : unapplied (l .entry) (u .o) (applied (l .entry) (u .o) (u .was)) ≡ u .was
+    pub there : u .was .occ ≡ not (isCreate (l .entry))
     pub shown : seen a c ls (u .o) .object ≡ applied (l .entry) (u .o) (u .was)
     pub without : (x : ℕ) → seen a c (struckNewest i ls) x ≡ if (eqb x (u .o)) (shows u) (seen a c ls x)
     pub backs : Backs a c i (struckNewest i ls) us
@@ -101,6 +103,7 @@ module _ (a : List ℕ) (c : Line → Bool) (i : ℕ) where
       top = newest-here i l ls e;
       object = p .object;
       fits = p .fits;
+      there = p .there;
       shown = ap (λ (v : Seen). v .object) (seen-on a c l ls (u .o) k) ∙ ap (λ (v : Seen). applied (l .entry) (u .o) (v .object)) (p .was);
       without = λ x. ap (λ (ms : List Line). seen a c ms x) (struck-here i l ls e) ∙ seen-out a c (struckOut l) ls x (mute l e) ∙ by-bool (eqb x (u .o))
           (λ d. rw (d, eqb-true x (u .o) d) (p .was))
@@ -114,6 +117,7 @@ module _ (a : List ℕ) (c : Line → Bool) (i : ℕ) where
       top = newest-past i l ls (d .l) e (d .top);
       object = d .object;
       fits = d .fits;
+      there = d .there;
       shown = ap (λ (v : Seen). v .object) (quiet ls) ∙ d .shown;
       without = λ x. ap (λ (ms : List Line). seen a c ms x) (struck-past i l ls e) ∙ by-bool (eqb x (u .o))
           (λ z. rw (z, eqb-true x (u .o) z) (quiet (struckNewest i ls) ∙ d .without (u .o) ∙ rw (eq-eqb (u .o) (u .o) refl)))
@@ -150,5 +154,6 @@ module _ (a : List ℕ) (c d : Line → Bool) (i : ℕ) where
         object = p .object;
         was = seen-agree a d c ls (u .o) (λ m j t. h m (Keeping.later j) (u .o) t) ∙ p .was;
         fits = p .fits;
+        there = p .there;
       })
       (backs-agree ls us (λ m j. h m (Keeping.later j)) b)

@@ -23,6 +23,11 @@ unfolding filtered
 filtered-same c d [] h = refl
 filtered-same c d (l ∷ ls) h = rw (h l here, filtered-same c d ls (λ m i. h m (later i)))
 
+pub filtered-none : (f : Line → Bool) (ls : List Line) → Each (λ l. f l ≡ false) ls → filtered f ls ≡ []
+unfolding filtered
+filtered-none f [] h = refl
+filtered-none f (l ∷ ls) h = rw (h l here) (filtered-none f ls (λ m j. h m (later j)))
+
 module _ (c : Line → Bool) where
   pub filtered-past : (a ls : List Line) → Each (λ l. c l ≡ false) a → filtered c (a ++ ls) ≡ filtered c ls
   unfolding filtered
@@ -51,6 +56,9 @@ module _ (d : Line → Bool) (i : ℕ) (here-out : (l : Line) → isLeft i l ≡
 pub record Alike (ls ms : List Line) : Type 0 where
   pub lines : committedOf ls ≡ committedOf ms
   pub shows : (p : List ℕ) (x : ℕ) → seen p (counted ls) ls x ≡ seen p (counted ms) ms x
+
+pub alike-self : (ls : List Line) → Alike ls ls
+alike-self ls = record { lines = refl; shows = λ p x. refl }
 
 pub alike-trans : {ls ms ns : List Line} → Alike ls ms → Alike ms ns → Alike ls ns
 alike-trans a b = record { lines = a .lines ∙ b .lines; shows = λ p x. a .shows p x ∙ b .shows p x }

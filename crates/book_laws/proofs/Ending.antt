@@ -54,7 +54,7 @@ full-owner false false a b = refl
 
 -- what does not hang on who writes which page
 module _ (b : Book) (inv : BookInv b) (t : ℕ) (run : Runs b t) where
-  commit-all : (l : Line) → countsFull (committedBy b t) l ≡ countsFull b l
+  pub commit-all : (l : Line) → countsFull (committedBy b t) l ≡ countsFull b l
   unfolding hasCommit
   commit-all l = full-owner (isSweep (l .entry)) (l .struck) (eqb (b .running t) (l .owner) || hasCommit (l .owner) (b .lines)) (runs (committedBy b t) (l .owner))
       ∙ by-owner (isSweep (l .entry)) (l .struck) ((eqb (b .running t) (l .owner) || hasCommit (l .owner) (b .lines)) || runs (committedBy b t) (l .owner)) (hasCommit (l .owner) (b .lines) || runs b (l .owner))

@@ -2,9 +2,10 @@
 -- This serves the proof of demand 3; its claim never mentions it. Assumes nothing.
 use Prim.Native.Nat.{ℕ}
 use mathlib.Core.Path.{_≡_}
-use mathlib.Core.Bool.{Bool, true, false}
+use mathlib.Core.Bool.{Bool, true, false, not}
 use mathlib.Core.List.{List, [], _∷_}
 use Rattle.records.specs.declared.Record.{Record}
+use Rattle.records.specs.Records.{isCreate}
 use Rattle.records.specs.Effects.{undoing}
 use Rattle.book.specs.Lines.{Line, line, struckOut, isLeft}
 use Rattle.collector.specs.Undo.{Item}
@@ -35,11 +36,13 @@ pub data Every (Q : ℕ → Type 0) : List Item → Type 0 where
 abbrev pub Away : Record → List Item → Type 0
 Away r us = Every (λ x. touches r x ≡ false) us
 
--- u is the object of line l as it was before it, after the lines ls that pass test c from pages a on; the line's record can be taken back
+-- u is the object of line l as it was before it, after the lines ls that pass test c from pages a on; the line's record can be taken back.
+-- It was there, unless the line creates it
 pub record Before (a : List ℕ) (c : Line → Bool) (l : Line) (ls : List Line) (u : Item) : Type 0 where
   pub object : l .entry .object ≡ u .o
   pub was : seen a c ls (u .o) ≡ record { object = u .was; tag = u .tag }
   pub fits : unapplied (l .entry) (u .o) (applied (l .entry) (u .o) (u .was)) ≡ u .was
+  pub there : u .was .occ ≡ not (isCreate (l .entry))
 
 -- what can be taken back of own transaction i: its lines that are left; other lines since that count touch none of these objects
 pub data Backs (a : List ℕ) (c : Line → Bool) (i : ℕ) : List Line → List Item → Type 0 where

@@ -48,10 +48,10 @@ deep-later n s us = stepped-alike (λ s. dated s n) (λ s. s .tags .now ≤ n) a
 other-page : (s : St) (t u p : ℕ) → eqb u t ≡ false → Inv s → s .locks .wr u p ≡ true → s .locks .wr t p ≡ false
 other-page s t u p n j o = is-false (s .locks .wr t p) (λ w. eqb-false u t n (j .exclusive .sole u t p o w))
 
-pub deep-begin : (t n : ℕ) (s : St) (us : Stacks) → BeginFacts s t n → Deep s us → Deep (begun s t n) us
+pub deep-begin : (t n : ℕ) (s : St) (us : Stacks) → BeginFacts s t n → Deep s us → Deep (begun s t n) (with us t [])
 deep-begin t n s us = stepped-alike (λ s. begun s t n) (λ s. BeginFacts s t n) anyone (λ s f. keep-begin s t n f) (λ s u i q o. o)
     (λ s u i q o j f. record { small = f .small; inactive = f .inactive; line = f .line })
-    swap s us us (all-of us)
+    swap s us (with us t []) (λ u i r e. by-bool (eqb u t) (λ d. no-item (rw d at e)) (λ d. (rw d at e, refl)))
   where
     swap : (s : St) (u : ℕ) (i : Item) → true ≡ true → Own s u i → Inv s → BeginFacts s t n → begun (popped s u i) t n ≡ popped (begun s t n) u i
     swap s u i q o j f = same-tables _ _ refl refl refl refl refl

@@ -130,6 +130,11 @@ pub flat : (k : ℕ) (s : St) (us : Stacks) → ((t : ℕ) → us t ≡ []) → 
 flat zero s us h j = here j
 flat (suc k) s us h j = deeper j (λ t i r e. no-item (sym (h t) ∙ e)) (λ t i r e. no-item (sym (h t) ∙ e))
 
+-- equal parts
+pub deep-same : (s s′ : St) (us : Stacks) → s′ .count ≡ s .count → s′ .pages ≡ s .pages → s′ .tags ≡ s .tags → s′ .locks ≡ s .locks
+    → s′ .tables ≡ s .tables → s′ .pass ≡ s .pass → Deep s us → Deep s′ us
+deep-same s s′ us n p a l b k w = let e : s′ ≡ s = λ j. record { count = n j; pages = p j; tags = a j; locks = l j; tables = b j; pass = k j } in rw e w
+
 -- t's newest change is taken back
 pub taken : (s : St) (us : Stacks) (t : ℕ) (i : Item) (r : List Item) → us t ≡ i ∷ r → Deep s us → Deep (popped s t i) (with us t r)
 taken s us t i r e w k = below (w (suc k)) t i r e

@@ -11,6 +11,7 @@ use Rattle.words.specs.Bits.{bit}
 use Rattle.records.specs.declared.Record.{Record}
 use Rattle.records.specs.Records.{setOf, uncreateOf}
 use Rattle.records.specs.Effects.{undoing}
+use Rattle.records.specs.Soundness.{namesObject}
 use Rattle.records.specs.Order.{openNext, inOrder}
 use Rattle.collector.specs.Objects.{Obj, blank, put}
 use Rattle.machine_view.specs.View.{applied, unapplied}
@@ -26,6 +27,14 @@ Change r = (r .kind ≡ 2) ⊎ (r .kind ≡ 3)
 module _ (r : Record) where
   self : eqb (r .object) (r .object) ≡ true
   self = eq-eqb (r .object) (r .object) refl
+
+  pub undoing-names : namesObject (undoing r) ≡ true
+  unfolding undoing
+  undoing-names = by-bool (eqb (r .kind) 2) (λ e. rw e refl) (λ e. rw e refl)
+
+  pub undoing-object : undoing r .object ≡ r .object
+  unfolding undoing
+  undoing-object = by-bool (eqb (r .kind) 2) (λ e. rw e refl) (λ e. rw e refl)
 
   undoing-applied : Change r → (b : Obj) → applied (undoing r) (r .object) b ≡ unapplied r (r .object) b
   unfolding applied unapplied undoing
