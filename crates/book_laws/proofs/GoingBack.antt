@@ -1,5 +1,5 @@
 -- Going back, and what an abort undoes: several changes undone one after the other. Assumes nothing.
-use Prim.Native.Nat.{ℕ, zero, suc, _-_, _≤_}
+use Prim.Native.Nat.{ℕ, zero, suc, _+_, _-_, _≤_}
 use native.Mathlib.Omega.{arith}
 use mathlib.Core.Path.{_≡_, refl, sym, ap, _∙_}
 use mathlib.Core.Bool.{Bool, true, false, not, _&&_}
@@ -29,6 +29,13 @@ unfolding goesBack
 went-inv zero b i t r h = i
 went-inv (suc k) b i t r h = let e = some-left k (left (b .running t) (b .lines)) h in
     went-inv k (undoes b t) (undo-inv b i t r _ e) t r (let d = undo-left b i t r _ e in omega arith)
+
+pub went-left : (k : ℕ) (b : Book) → BookInv b → (t : ℕ) → Runs b t → k ≤ left (b .running t) (b .lines)
+    → left (b .running t) (goesBack k b t .lines) + k ≡ left (b .running t) (b .lines)
+unfolding goesBack
+went-left zero b i t r h = omega arith
+went-left (suc k) b i t r h = let e = some-left k (left (b .running t) (b .lines)) h in let d = undo-left b i t r _ e in
+    let f = went-left k (undoes b t) (undo-inv b i t r _ e) t r (omega arith) in omega arith
 
 -- an abort's book: going all the way back, and the end
 module _ (t : ℕ) where

@@ -16,7 +16,9 @@ pub mod Finished
 pub mod Shared
 pub mod Ending
 pub mod Bound
+pub mod Went
 pub mod Undo
+pub mod GoneBack
 pub mod Commit
 pub mod Begin
 pub mod Copying

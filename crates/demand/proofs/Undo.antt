@@ -6,7 +6,7 @@ use mathlib.Core.Path.{_≡_, refl, sym, ap, _∙_, subst}
 use mathlib.Core.Bool.{Bool, true, false, not, _&&_, _||_}
 use mathlib.Core.List.{List, [], _∷_}
 use mathlib.Core.Logic.{inl, inr}
-use lib.ListN.{length, drop}
+use lib.ListN.{length, drop, length-set}
 use lib.Seq.{getD-set-same}
 use lib.Dec.{eqb}
 use borrow.Author.Tests.{eqb-true, eqb-false, eq-eqb, ne-eqb, not-true}
@@ -19,7 +19,7 @@ use Rattle.records.specs.Records.{recorded, recordWords, txnCount, isBegin, isC
 use Rattle.records.specs.Effects.{effect, undoing}
 use Rattle.records.specs.Soundness.{recordSound}
 use Rattle.records.specs.Order.{openIn, openNext, inOrder}
-use Rattle.record_laws.specs.RecordLaws.{SoundRecord, sound-record}
+use Rattle.record_laws.specs.RecordLaws.{SoundRecord, sound-record, recorded-length}
 use Rattle.record_laws.specs.SoundRecords.{undoing-sound}
 use Rattle.record_laws.specs.EffectLaws.{length-effect}
 use Rattle.areas.specs.Areas.{Areas, receivedCount, withWork, appended}
@@ -33,8 +33,9 @@ use Rattle.book.specs.Books.{Book, runs, countsFull, fullLines, fullPages}
 use Rattle.book.specs.Feeding as Feeding
 use Rattle.collector.specs.Bits.{_and_, _or_, and-intro}
 use Rattle.collector.specs.Objects.{Obj, pageOf}
-use Rattle.collector.specs.State.{Locks, Tables, St}
+use Rattle.collector.specs.State.{Phase, Locks, Tables, St}
 use Rattle.collector.specs.Calls as Calls
+use Rattle.collector.specs.Calls.{without}
 use Rattle.collector.specs.Undo.{Item, Stacks, with, popped}
 use Rattle.collector.proofs.Worlds.{Deep, inv-of, deep-same, taken}
 use Rattle.collector.proofs.Depths.{deep-later}
@@ -42,7 +43,7 @@ use Rattle.machine_view.specs.View.{view, applied, unapplied}
 use Rattle.machine_view.proofs.Records.{effect-view}
 use Rattle.machine_calls.specs.Tables.{locksOf, tablesOf}
 use Rattle.machine_calls.proofs.Frames.{reopening-kept}
-use Rattle.machine_calls.proofs.TakenBack.{back-beside, back-locks, back-tables, back-above, back-noted}
+use Rattle.machine_calls.proofs.TakenBack.{back-beside, back-locks, back-tables, back-pass, back-above, back-noted}
 use Rattle.machine_calls.proofs.Shows.{Shows, back-shows}
 use Rattle.recovery_proof.proofs.Invariant as Recovery
 use Rattle.recovery_proof.proofs.Decided.{SameCells, same-longer}
@@ -66,6 +67,7 @@ use Rattle.demand.proofs.State.{machine, received, logged, Going, OpenI
 use Rattle.demand.proofs.LeftRecords.{leftNext, leftRecords, left-append, left-same}
 use Rattle.demand.proofs.Notes.{leftEntries, Notes}
 use Rattle.demand.proofs.Going.{items-own}
+use Rattle.demand.proofs.Went.{Went, sized-same}
 use Rattle.demand.proofs.OneRecord.{Appends, log-after}
 use Rattle.demand.proofs.Change.{machine-shows, full-shown}
 use Rattle.demand.proofs.Shared.{small-after, full-ext}
@@ -86,6 +88,20 @@ spare-other : (c y : Bool) → (not c or not (false and y)) ≡ true
 unfolding _and_ _or_
 spare-other true y = refl
 spare-other false y = refl
+
+-- t's own bits do not matter once t has ended
+known-gone : (a b c y : Bool) → (not a and (b and (c or not (a and y)))) ≡ (not a and b)
+unfolding _and_ _or_
+known-gone true b c y = refl
+known-gone false true true y = refl
+known-gone false true false y = refl
+known-gone false false c y = refl
+
+dirty-gone : (a b y : Bool) → (not a and (b or (a and y))) ≡ (not a and b)
+unfolding _and_ _or_
+dirty-gone true b y = refl
+dirty-gone false true y = refl
+dirty-gone false false y = refl
 
 -- what an undoing record is to others: nothing
 module _ (r : Record) (t : ℕ) (mine : r .txn ≡ t) where
@@ -334,7 +350,7 @@ module _ (n : ℕ) (some : 1 ≤ n) (s : Areas) (b : Book) (i : OpenInv n s b) (
   long : recordWords * receivedCount s + recordWords ≤ length (s .log)
   long = let e = z .log-len in omega arith
 
-  count-more : receivedCount s′ ≡ receivedCount s + 1
+  pub count-more : receivedCount s′ ≡ receivedCount s + 1
   unfolding appended
   count-more = getD-set-same (s .counts) 0 (receivedCount s + 1) 0 (let e = z .counts-len in omega arith)
 
@@ -347,7 +363,7 @@ module _ (n : ℕ) (some : 1 ≤ n) (s : Areas) (b : Book) (i : OpenInv n s b) (
   noted : undoes w n (receivedCount s) ≡ true
   noted = ap (λ (c : ℕ). not (eqb c 0)) (back-noted (s .work) n t (receivedCount s) r (ranged .0) (ranged .1) (let e = z .work-len in omega arith))
 
-  entries-own : leftEntries b′ t ≡ drop 1 (leftEntries b t)
+  pub entries-own : leftEntries b′ t ≡ drop 1 (leftEntries b t)
   unfolding entries filtered
   entries-own = ap (λ (ls : List Line). entries (filtered (isLeft j) ls)) lines ∙ rw (struck-not-left j (line q j)) (sym (ap (λ (ls : List Line). drop 1 (entries ls)) (top .rest)))
 
@@ -404,4 +420,35 @@ module _ (n : ℕ) (some : 1 ≤ n) (s : Areas) (b : Book) (i : OpenInv n s b) (
     writers = writers-after;
     base = i .base;
     log = log-after n s b (i .base) (i .log) z q (undoingLine j l) s′ b′ appends inv-after (inv-of (deep-after 0)) sound-after open-after (same-longer (q ∷ []) (received s) (i .log .copies));
+  }
+
+  -- the parts that stay
+  tables-once : (ph : Phase) → without (tablesOf w n) ph t ≡ without (tablesOf (s .work) n) ph t
+  tables-once ph = ap (λ (a : Tables). without a ph t) (back-tables (s .work) n t (receivedCount s) r (ranged .0) (ranged .1) tables-len small)
+      ∙ (λ h. record {
+        kn = λ v x. known-gone (eqb v t) (tablesOf (s .work) n .kn v x) (not (isCreate r)) (eqb x (r .object)) h;
+        prt = without (tablesOf (s .work) n) ph t .prt;
+        cot = without (tablesOf (s .work) n) ph t .cot;
+        cotF = without (tablesOf (s .work) n) ph t .cotF;
+        dirty = λ v p. dirty-gone (eqb v t) (tablesOf (s .work) n .dirty v p) (eqb p (pageOf (r .object))) h;
+      })
+
+  pub undone-once : Went n t s b s′ b′
+  unfolding appended
+  undone-once = record {
+    kept = undone-kept;
+    sized = sized-same s s′ n refl refl (length-effect (s .received) q) (recorded-length (s .log) (receivedCount s) q) (length-set (s .counts) 0 (receivedCount s + 1))
+        (back-beside (s .work) n t (receivedCount s) r (ranged .0) (ranged .1) .same-length) z;
+    running = refl;
+    marked = refl;
+    opens = open-undo b (i .book) t run k more;
+    others = left-others;
+    lines-others = entries-other;
+    longer = let c = count-more in omega arith;
+    locks = locks;
+    pass = back-pass (s .work) n t (receivedCount s) r (ranged .0) (ranged .1);
+    tables = tables-once;
+    marks = λ x h e. word-same x h (λ y. omega arith);
+    size = recorded-length (s .log) (receivedCount s) q;
+    copies = refl;
   }
