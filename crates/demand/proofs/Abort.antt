@@ -310,6 +310,9 @@ module _ (n : ℕ) (some : 1 ≤ n) (s : Areas) (b : Book) (i : OpenInv n s b) (
   unfolding aborted appended effect
   areas-same = rw (rolled-went (s .log) is n t s (s .work)) refl
 
+  aborted-fed : OpenInv n s′ (Feeding.ends (Feeding.adds (Feeding.withLines b (undoneLines (b .running t) (left (b .running t) (b .lines)) (b .lines))) t e) t)
+  aborted-fed = subst (λ (d : Book). OpenInv n s′ d) book-same aborted-inv
+
 pub open-abort : (n : ℕ) → 1 ≤ n → (s : Areas) (b : Book) → OpenInv n s b → (t : ℕ) → accepted (callAbort s t .answer) ≡ true
     → OpenInv n (callAbort s t .after) (fed n b (abort t) (s .received) (callAbort s t .after .received))
 unfolding fed
@@ -320,4 +323,4 @@ open-abort n some s b i t c =
     let h : Open s n = rw e at o in
     let f : Accepted.AbortFacts s n t = rw e at (Accepted.abort-facts s (k .n) t (k .passed)) in
     let g : callAbort s t .after ≡ aborted s n t = ap (λ (q : Out). q .after) (k .gives) ∙ ap (λ (m : ℕ). aborted s m t) e in
-    rw (g ∙ areas-same n some s b i h t f) (subst (λ (d : Book). OpenInv n _ d) (book-same n some s b i h t f) (aborted-inv n some s b i h t f))
+    subst (λ (a : Areas). OpenInv n a (Feeding.ends (Feeding.adds (Feeding.withLines b (undoneLines (b .running t) (left (b .running t) (b .lines)) (b .lines))) t (abortedOf t)) t)) (sym (g ∙ areas-same n some s b i h t f)) (aborted-fed n some s b i h t f)

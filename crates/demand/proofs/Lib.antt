@@ -25,6 +25,7 @@ pub mod Copying
 pub mod Restored
 pub mod Abort
 pub mod Unlogged
+pub mod Marks
 pub mod Locks
 pub mod Reading
 pub mod Flush

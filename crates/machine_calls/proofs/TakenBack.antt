@@ -14,7 +14,7 @@ use Rattle.words.specs.Spans.{over}
 use Rattle.pages.specs.Geometry.{pageOf, objectCount}
 use Rattle.records.specs.declared.Record.{Record}
 use Rattle.records.specs.Records.{txnCount, isCreate}
-use Rattle.areas.specs.Layout.{unflushedAt, knownAt, prunedAt, colourAt, tableWords, markCount, markedAt, orderAt, undoingAt, undoingFrom}
+use Rattle.areas.specs.Layout.{unflushedAt, knownAt, prunedAt, colourAt, tableWords, markCount, markedAt, orderFrom, orderAt, undoingAt, undoingFrom}
 use Rattle.areas.specs.Tables.{gain, lose}
 use Rattle.calls.specs.Marks.{orderOf, movedUp, othersSet, setLast, takenBack, dropped}
 use Rattle.collector.specs.Bits.{_and_, _or_}
@@ -112,7 +112,7 @@ module _ (w : List ℕ) (n t c : ℕ) (r : Record) (low : 1 ≤ r .object) (top 
 
 -- marks stand behind the tables
 module _ (w : List ℕ) (n t m : ℕ) (small : t < txnCount) (mark : m < markCount) where
-  pub set-last-beside : Beside (tableWords n) (undoingFrom n) w (setLast w n t m)
+  pub set-last-beside : Beside (orderFrom n) (undoingFrom n) w (setLast w n t m)
   unfolding setLast
   set-last-beside = later (wider (beside-over (movedUp (orderOf w n t m)) w (orderAt n t 0) markCount) (omega arith) (omega arith))
       (wider (beside-set _ (orderAt n t m) (othersSet w n t m + 1)) (omega arith) (omega arith))
