@@ -84,7 +84,7 @@ module _ (n : ℕ) (some : 1 ≤ n) (s : Areas) (b : Book) (i : OpenInv n s b) (
   abbrev is : List ℕ
   is = changesOf s n t
 
-  run : Runs b t
+  pub run : Runs b t
   run = i .active t (act-is s n (machine n s b) (machine-shows n s b) t (f .txn) ∙ f .active)
 
   -- all changes undone
@@ -94,21 +94,22 @@ module _ (n : ℕ) (some : 1 ≤ n) (s : Areas) (b : Book) (i : OpenInv n s b) (
   abbrev b₁ : Book
   b₁ = goesBack (length is) b t
 
-  gone : Went n t s b s₁ b₁
-  gone = went n some t (f .txn) (s .log) is s b i (h .sized) run
-      (words-left n s b i t (f .txn) run ∙ sym (all-of (leftEntries b t) (length is) (sym (ap length (words-left n s b i t (f .txn) run)) ∙ records-length (s .log) is)))
-      (let e = words-count n s b i t (f .txn) run in omega arith) (let r = f .room in omega arith)
+  pub records-all : recordsOf (s .log) is ≡ take (length is) (leftEntries b t)
+  records-all = words-left n s b i t (f .txn) run ∙ sym (all-of (leftEntries b t) (length is) (sym (ap length (words-left n s b i t (f .txn) run)) ∙ records-length (s .log) is))
     where
       all-of : (es : List Record) (k : ℕ) → length es ≡ k → take k es ≡ es
       all-of es k e = take-all k es (omega arith)
 
+  pub gone : Went n t s b s₁ b₁
+  gone = went n some t (f .txn) (s .log) is s b i (h .sized) run records-all (let e = words-count n s b i t (f .txn) run in omega arith) (let r = f .room in omega arith)
+
   i₁ : OpenInv n s₁ b₁
   i₁ = gone .kept
 
-  run₁ : Runs b₁ t
+  pub run₁ : Runs b₁ t
   run₁ z = run (sym (ap (λ (g : ℕ → ℕ). g t) (gone .running)) ∙ z)
 
-  none-left : left (b₁ .running t) (b₁ .lines) ≡ 0
+  pub none-left : left (b₁ .running t) (b₁ .lines) ≡ 0
   none-left = ap (λ (g : ℕ → ℕ). left (g t) (b₁ .lines)) (gone .running)
       ∙ (let e = words-count n s b i t (f .txn) run in let d = went-left (length is) b (i .book) t run (omega arith) in omega arith)
 
@@ -282,7 +283,7 @@ module _ (n : ℕ) (some : 1 ≤ n) (s : Areas) (b : Book) (i : OpenInv n s b) (
     marks = rw (gone .marked) (end-marks n (s .work) t (f .txn) (let d = h .sized .work-len in omega arith) (b .marked) (i .going .notes .marks));
   }
 
-  aborted-inv : OpenInv n s′ b′
+  pub aborted-inv : OpenInv n s′ b′
   unfolding appended
   aborted-inv = record {
     size = i₁ .size;
@@ -303,10 +304,10 @@ module _ (n : ℕ) (some : 1 ≤ n) (s : Areas) (b : Book) (i : OpenInv n s b) (
   }
 
   -- the book and the areas that the call leaves
-  book-same : b′ ≡ Feeding.ends (Feeding.adds (Feeding.withLines b (undoneLines (b .running t) (left (b .running t) (b .lines)) (b .lines))) t e) t
+  pub book-same : b′ ≡ Feeding.ends (Feeding.adds (Feeding.withLines b (undoneLines (b .running t) (left (b .running t) (b .lines)) (b .lines))) t e) t
   book-same = ap (λ (k : ℕ). abortedBy (goesBack k b t) t) (words-count n s b i t (f .txn) run) ∙ sym (aborted-book t b)
 
-  areas-same : aborted s n t ≡ s′
+  pub areas-same : aborted s n t ≡ s′
   unfolding aborted appended effect
   areas-same = rw (rolled-went (s .log) is n t s (s .work)) refl
 

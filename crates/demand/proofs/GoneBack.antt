@@ -54,16 +54,25 @@ first-of : (g : List ℕ) (h : ℕ) (is : List ℕ) (r : Record) (es rest : List
 unfolding recordsOf
 first-of g h is r es rest d e = rw d (rw d at e)
 
-module _ (n : ℕ) (some : 1 ≤ n) (t : ℕ) (small : t < txnCount) (g : List ℕ) where
-  pub went : (is : List ℕ) (s : Areas) (b : Book) → OpenInv n s b → Sized s n → Runs b t → recordsOf g is ≡ take (length is) (leftEntries b t)
-      → length is ≤ left (b .running t) (b .lines) → receivedCount s + length is ≤ records s → Went n t s b (wentBack g is s n t) (Feeding.goesBack (length is) b t)
+-- and what each undoing keeps beside
+module _ (n : ℕ) (some : 1 ≤ n) (t : ℕ) (small : t < txnCount) (g : List ℕ) (P : Areas → Book → Type 0)
+    (step : (s : Areas) (b : Book) (i : OpenInv n s b) (z : Sized s n) (run : Runs b t) (k : ℕ) (more : left (b .running t) (b .lines) ≡ suc k) (room : receivedCount s + 1 ≤ records s)
+    → P s b → P (withWork (appended s (undoing (newest (b .running t) (b .lines) k more .0 .entry))) (takenBack (s .work) n t (receivedCount s) (newest (b .running t) (b .lines) k more .0 .entry)))
+    (Feeding.undoes b t)) where
+  pub went-with : (is : List ℕ) (s : Areas) (b : Book) → OpenInv n s b → Sized s n → Runs b t → recordsOf g is ≡ take (length is) (leftEntries b t)
+      → length is ≤ left (b .running t) (b .lines) → receivedCount s + length is ≤ records s → P s b
+      → Went n t s b (wentBack g is s n t) (Feeding.goesBack (length is) b t) × P (wentBack g is s n t) (Feeding.goesBack (length is) b t)
   unfolding wentBack Feeding.goesBack
-  went [] s b i z run e l room = went-none n t s b i z
-  went (h ∷ is) s b i z run e l room = subst (λ (a : Areas). Went n t s b (wentBack g is a n t) (Feeding.goesBack (length is) (Feeding.undoes b t) t)) (sym same)
-      (went-more n t s b s₁ (Feeding.undoes b t) (wentBack g is s₁ n t) (Feeding.goesBack (length is) (Feeding.undoes b t) t) once
-      (went is s₁ (Feeding.undoes b t) (once .kept) (once .sized) run (rest-e ∙ ap (take (length is)) (sym (entries-own n some s b i z t run small k more fits)))
+  went-with [] s b i z run e l room p = (went-none n t s b i z, p)
+  went-with (h ∷ is) s b i z run e l room p =
+      let b₁ = Feeding.undoes b t in
+      let once : Went n t s b s₁ b₁ = undone-once n some s b i z t run small k more fits in
+      let on = went-with is s₁ b₁ (once .kept) (once .sized) run (rest-e ∙ ap (take (length is)) (sym (entries-own n some s b i z t run small k more fits)))
       (let d = undo-left b (i .book) t run k more in omega arith)
-      (let c = count-more n some s b i z t run small k more fits in let d : records s₁ ≡ records s = ap recordsIn (once .size) in omega arith)))
+      (let c = count-more n some s b i z t run small k more fits in let d : records s₁ ≡ records s = ap recordsIn (once .size) in omega arith)
+      (step s b i z run k more fits p) in
+      subst (λ (a : Areas). Went n t s b (wentBack g is a n t) (Feeding.goesBack (length is) b₁ t) × P (wentBack g is a n t) (Feeding.goesBack (length is) b₁ t)) (sym same)
+      (went-more n t s b s₁ b₁ (wentBack g is s₁ n t) (Feeding.goesBack (length is) b₁ t) once (on .0), on .1)
     where
       k : ℕ
       k = left (b .running t) (b .lines) - 1
@@ -80,9 +89,6 @@ module _ (n : ℕ) (some : 1 ≤ n) (t : ℕ) (small : t < txnCount) (g : List �
       s₁ : Areas
       s₁ = withWork (appended s (undoing r)) (takenBack (s .work) n t (receivedCount s) r)
 
-      once : Went n t s b s₁ (Feeding.undoes b t)
-      once = undone-once n some s b i z t run small k more fits
-
       head-tail : recordAt g h ∷ recordsOf g is ≡ r ∷ take (length is) (drop 1 (leftEntries b t))
       head-tail = first-of g h is r (leftEntries b t) (entries (filtered (isLeft (b .running t)) (struckNewest (b .running t) (b .lines)))) (newest-entries (b .running t) (b .lines) k more) e
 
@@ -94,3 +100,7 @@ module _ (n : ℕ) (some : 1 ≤ n) (t : ℕ) (small : t < txnCount) (g : List �
 
       same : withWork (appended s (undoing (recordAt g h))) (takenBack (s .work) n t (receivedCount s) (recordAt g h)) ≡ s₁
       same = ap (λ (q : Record). withWork (appended s (undoing q)) (takenBack (s .work) n t (receivedCount s) q)) same-record
+
+pub went : (n : ℕ) → 1 ≤ n → (t : ℕ) → t < txnCount → (g is : List ℕ) (s : Areas) (b : Book) → OpenInv n s b → Sized s n → Runs b t → recordsOf g is ≡ take (length is) (leftEntries b t)
+    → length is ≤ left (b .running t) (b .lines) → receivedCount s + length is ≤ records s → Went n t s b (wentBack g is s n t) (Feeding.goesBack (length is) b t)
+went n some t small g is s b i z run e l room = went-with n some t small g (λ a c. Unit) (λ a c j y q k m f p. tt) is s b i z run e l room tt .0

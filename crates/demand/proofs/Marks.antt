@@ -216,18 +216,18 @@ open-mark n some s b i t m a =
 
 -- back
 module _ (n : ℕ) (some : 1 ≤ n) (s : Areas) (b : Book) (i : OpenInv n s b) (h : Open s n) (t m : ℕ) (f : Accepted.BackFacts s n t m) where
-  back-runs : Runs b t
+  pub back-runs : Runs b t
   back-runs = i .active t (act-is s n (machine n s b) (machine-shows n s b) t (f .txn) ∙ f .active)
 
   abbrev is : List ℕ
   is = sinceMark s n t m
 
   -- the book strikes as many
-  count : length is ≡ left (b .running t) (b .lines) - b .marked t m
+  pub count : length is ≡ left (b .running t) (b .lines) - b .marked t m
   count = let e = words-count n s b i t (f .txn) back-runs in let d = i .going .notes .marks t m (f .txn) (f .mark) (f .marked) in
       length-take-le (length (changesOf s n t) - at (s .work) (markedAt n t m)) (changesOf s n t) (omega arith) ∙ omega arith
 
-  records-is : recordsOf (s .log) is ≡ take (length is) (leftEntries b t)
+  pub records-is : recordsOf (s .log) is ≡ take (length is) (leftEntries b t)
   records-is = records-take (s .log) (length (changesOf s n t) - at (s .work) (markedAt n t m)) (changesOf s n t)
       ∙ ap (take (length (changesOf s n t) - at (s .work) (markedAt n t m))) (words-left n s b i t (f .txn) back-runs)
       ∙ ap (λ (k : ℕ). take k (leftEntries b t)) (sym (length-take-le (length (changesOf s n t) - at (s .work) (markedAt n t m)) (changesOf s n t) (omega arith)))

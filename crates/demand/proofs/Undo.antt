@@ -14,6 +14,7 @@ use Rattle.words.specs.Tests.{if, by-bool, clash, and-split, and-false, or-case
 use Rattle.words.specs.Bits.{bit}
 use Rattle.pages.specs.Geometry as Geometry
 use Rattle.pages.specs.Geometry.{objectCount, pageWords}
+use Rattle.pages.specs.Objects.{occupied}
 use Rattle.records.specs.declared.Record.{Record}
 use Rattle.records.specs.Records.{recorded, recordWords, txnCount, isBegin, isChange, isCreate, changesObject}
 use Rattle.records.specs.Effects.{effect, undoing}
@@ -33,6 +34,7 @@ use Rattle.book.specs.Books.{Book, runs, countsFull, fullLines, fullPages}
 use Rattle.book.specs.Feeding as Feeding
 use Rattle.collector.specs.Bits.{_and_, _or_, and-intro}
 use Rattle.collector.specs.Objects.{Obj, pageOf}
+use Rattle.collector.specs.Objects as Collected
 use Rattle.collector.specs.State.{Phase, Locks, Tables, St}
 use Rattle.collector.specs.Calls as Calls
 use Rattle.collector.specs.Calls.{without}
@@ -40,6 +42,7 @@ use Rattle.collector.specs.Undo.{Item, Stacks, with, popped}
 use Rattle.collector.proofs.Worlds.{Deep, inv-of, deep-same, taken}
 use Rattle.collector.proofs.Depths.{deep-later}
 use Rattle.machine_view.specs.View.{view, applied, unapplied}
+use Rattle.machine_view.proofs.Effects.{view-occ}
 use Rattle.machine_view.proofs.Records.{effect-view}
 use Rattle.machine_calls.specs.Tables.{locksOf, tablesOf}
 use Rattle.machine_calls.proofs.Frames.{reopening-kept}
@@ -59,7 +62,7 @@ use Rattle.book_laws.proofs.Undoing.{struck-not-left, strikes-newest, strikes-l
 use Rattle.book_laws.proofs.Folds.{seen-agree, seen-out}
 use Rattle.book_laws.proofs.Finishing.{undo-lines, undo-inv, newest-txn}
 use Rattle.book_laws.proofs.Ends.{left-facts, unended, commit-strikes, undoing-kind}
-use Rattle.book_laws.proofs.Committed.{alike-undoing, alike-below, filtered-strikes}
+use Rattle.book_laws.proofs.Committed.{Alike, alike-undoing, alike-below, filtered-strikes}
 use Rattle.book_laws.proofs.Backing.{every-map, change-other, shows, Undone, backs-undone, backs-strikes, backs-length, backs-agree}
 use Rattle.book_laws.proofs.Openness.{open-intro, open-undo}
 use Rattle.book_laws.proofs.Soundness.{undo-sound}
@@ -180,10 +183,10 @@ module _ (n : ℕ) (some : 1 ≤ n) (s : Areas) (b : Book) (i : OpenInv n s b) (
   sound-r : recordSound n r ≡ true
   sound-r = i .sound .lines l (top .there)
 
-  ok : recordSound n q ≡ true
+  pub ok : recordSound n q ≡ true
   ok = undoing-sound n r sound-r (left-facts j l (top .is-left) .kind)
 
-  ranged : (1 ≤ r .object) × (r .object ≤ objectCount n)
+  pub ranged : (1 ≤ r .object) × (r .object ≤ objectCount n)
   ranged = let f = sound-record n r sound-r in elim change [ inl e ↦ (let p = f .create e in (omega arith, p .1)) | inr e ↦ f .write e ]
 
   own : locksOf (s .work) n .wr t (Geometry.pageOf (r .object)) ≡ true
@@ -223,7 +226,7 @@ module _ (n : ℕ) (some : 1 ≤ n) (s : Areas) (b : Book) (i : OpenInv n s b) (
   abbrev m : ℕ
   m = suc (length (b′ .lines))
 
-  longer : length (b′ .lines) ≡ suc (length (b .lines))
+  pub longer : length (b′ .lines) ≡ suc (length (b .lines))
   longer = ap length lines ∙ ap suc (strikes-length j struck)
 
   abbrev st : St
@@ -313,7 +316,7 @@ module _ (n : ℕ) (some : 1 ≤ n) (s : Areas) (b : Book) (i : OpenInv n s b) (
   area-len : length (s .received) ≡ pageWords * n
   area-len = z .received-len
 
-  area-small : Small n (s .received)
+  pub area-small : Small n (s .received)
   unfolding fullLines
   area-small = rw (i .full) (small-after n (b .origin) (i .sound .origin) (countsFull b) (b .lines) (i .sound .lines))
 
@@ -321,6 +324,22 @@ module _ (n : ℕ) (some : 1 ≤ n) (s : Areas) (b : Book) (i : OpenInv n s b) (
   unfolding appended
   full-received = full-ext n b′ sound-after (effect (s .received) q) (length-effect (s .received) q ∙ area-len) (small-effect n (s .received) area-len q ok area-small)
       (λ x. effect-view n (s .received) area-len q ok x ∙ ap (applied q x) (sym (full-shown n s b i x)) ∙ applied-after x)
+
+  -- a set finds its object there
+  pub there-then : q .kind ≡ 3 → occupied (s .received) (q .object) ≡ true
+  unfolding undoing applied Collected.put
+  there-then h = by-bool (eqb (r .kind) 2)
+      (λ e. absurd (let z : q .kind ≡ 6 = rw e refl in omega arith))
+      (λ e. let set-r : r .kind ≡ 3 = elim change [ inl c ↦ absurd (eqb-false (r .kind) 2 e c) | inr c ↦ c ] in rw (undoing-object r)
+      (sym (view-occ (s .received) (r .object) (ranged .0)) ∙ ap (λ (x : Obj). x .occ) (sym (full-shown n s b i (r .object)) ∙ now)
+      ∙ rw (set-r, eq-eqb (r .object) (r .object) refl) (there ∙ rw e refl)))
+
+  -- a cut may leave any part of it
+  pub alike-all : Alike (b′ .lines) (b .lines)
+  alike-all = rw lines (alike-undoing j l none struck)
+
+  pub alike-part : (h : ℕ) → Alike (drop (suc h) (b′ .lines)) (drop h (b .lines))
+  alike-part h = rw lines (alike-below j l none struck h)
 
   -- what is known
   known-after : (v x : ℕ) → b′ .known v x ≡ true → tablesOf w n .kn v x ≡ true

@@ -6,6 +6,7 @@ pub mod Sound
 pub mod Fine
 pub mod Through
 pub mod Keeps
+pub mod Undone
 pub mod Always
 pub mod Disks
 pub mod Refusals

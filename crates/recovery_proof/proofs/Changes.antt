@@ -1,14 +1,16 @@
 -- The changes left of a transaction that is open: it has begun in the log. Assumes nothing.
-use Prim.Native.Nat.{ℕ, zero, suc}
+use Prim.Native.Nat.{ℕ, zero, suc, _+_, _≤_}
+use native.Mathlib.Omega.{arith}
 use mathlib.Core.Path.{_≡_, refl, sym, _∙_}
-use mathlib.Core.Bool.{Bool, true, false, not}
-use mathlib.Core.List.{List}
+use mathlib.Core.Bool.{Bool, true, false, not, _&&_}
+use mathlib.Core.List.{List, []}
+use lib.ListN.{length, drop, length-drop}
 use lib.Dec.{eqb}
 use borrow.Author.Tests.{eqb-true, eqb-false, eq-eqb, ne-eqb, not-true}
 use Rattle.words.specs.Tests.{any, by-bool, clash, and-split, or-l, or-r, or-false}
 use Rattle.words.specs.Bits.{bit, withoutBit, bit-none, bit-with, bit-without}
 use Rattle.records.specs.declared.Record.{Record}
-use Rattle.records.specs.Records.{recordAt, isBegin}
+use Rattle.records.specs.Records.{recordAt, isBegin, isChange, changesObject}
 use Rattle.records.specs.Order.{openIn, openNext}
 use Rattle.records.specs.Changes.{changesIn, changesLeft}
 use Rattle.recovery_proof.proofs.Shapes.{begins, creates, sets, commits, aborts, uncreates, rest, kind-of}
@@ -52,3 +54,14 @@ module _ (g : List ℕ) (t : ℕ) where
   pub changes-left : (u : ℕ → Bool) (c : ℕ) → bit (openIn g c) t ≡ true → changesLeft u g c t ≡ changesIn u g t c
   unfolding changesLeft
   changes-left u c h = rw (begun c h) refl
+
+  -- each has a record of its own beside the begin
+  pub changes-few : (u : ℕ → Bool) (c : ℕ) → bit (openIn g c) t ≡ true → length (changesIn u g t c) + 1 ≤ c
+  unfolding openIn changesIn
+  changes-few u zero h = clash h (bit-none t)
+  changes-few u (suc i) h = let r = recordAt g i in let before = changesIn u g t i in elim (stays (openIn g i) t r h) [
+    | opens b ↦ rw b (omega arith)
+    | goes n o ↦ (let few = changes-few u i o in rw n (by-bool (u i && changesObject r t)
+        (λ e. rw e (let d = length-drop 1 before in omega arith))
+        (λ e. rw e (by-bool (isChange r t) (λ k. rw k (omega arith)) (λ k. rw k (omega arith))))))
+  ]
