@@ -9,7 +9,7 @@ use lib.Seq.{getD-set-same, getD-set-other}
 use lib.Dec.{eqb, ltb}
 use borrow.Author.Tests.{ltb-true, leb-true, eqb-false, ne-eqb}
 use Rattle.words.specs.Tests.{by-bool}
-use Rattle.words.specs.Spans.{zero-at}
+use Rattle.words.specs.Spans.{fill, length-fill, zero-at}
 use Rattle.pages.specs.Geometry.{slotWords, pageWords, maxPages}
 use Rattle.pages.specs.Objects.{wordOf, formattedPages}
 use Rattle.pages.specs.Soundness.{areaSound}
@@ -20,7 +20,7 @@ use Rattle.record_laws.specs.EffectLaws.{length-recovered}
 use Rattle.areas.specs.declared.Check.the-variants.{Accept}
 use Rattle.areas.specs.Answers.{accepted, Test, verdict}
 use Rattle.areas.specs.Areas.{Areas, Out, receivedCount, stableCount}
-use Rattle.areas.specs.Layout.{reopeningPageAt, phaseAt, passPageAt, workWords}
+use Rattle.areas.specs.Layout.{reopeningPageAt, phaseAt, passPageAt, undoingAt, workWords}
 use Rattle.areas.specs.Tables.{at}
 use Rattle.areas.specs.Entry.{pages, records, reopening}
 use Rattle.calls.specs.Calls.{Call, reopens, perform}
@@ -144,7 +144,9 @@ module _ (n : ℕ) (some : 1 ≤ n) (s : Areas) (b : Book) (k : ℕ) (i : Storin
       let v : Within (reopeningOver s n .work) n (records s) = set-within _ n (records s) 1 0 (set-within _ n (records s) 0 2 (emptied-within (s .work) n (records s) w (records s)) (word refl (omega arith))) (reopening-page refl (omega arith)) in
       let count : receivedCount (reopeningOver s n) ≡ 0 = getD-set-other (set (s .counts) 0 0) 1 0 0 0 (λ y. omega arith) ∙ getD-set-same (s .counts) 0 0 0 (let y = z .counts-len in omega arith) in
       let none = held-none b′ (λ t. ap (λ (g : ℕ → ℕ). g t) r ∙ i .waiting .idle t) in
-      let two : reopening (reopeningOver s n) ≡ 2 = getD-set-other (set (s .work) 0 2) 1 0 0 0 (λ y. omega arith) ∙ getD-set-same (s .work) 0 2 0 (let y = z .work-len in omega arith) in
+      let w₀ = fill (λ t. 0) (s .work) (undoingAt n 0) (records s) in
+      let two : reopening (reopeningOver s n) ≡ 2 = getD-set-other (set w₀ 0 2) 1 0 0 0 (λ y. omega arith)
+      ∙ getD-set-same w₀ 0 2 0 (let x = length-fill (λ t. 0) (s .work) (undoingAt n 0) (records s) in let y = z .work-len in omega arith) in
       open-fine n some (reopeningOver s n) b′ (as-open n (reopeningOver s n) b′ j two)
       (resized n s (reopeningOver s n) z refl refl refl refl (length-set (set (s .counts) 0 0) 1 0 ∙ length-set (s .counts) 0 0) (v .size))
       (f .stored) v (rw (i .received) sound) (rw (i .copies) sound) (rw (o, e, d) (f .firm)) (omega arith)
