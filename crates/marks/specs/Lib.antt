@@ -1,0 +1,2 @@
+-- Laws of marks and of going back.
+pub mod Places

@@ -1,0 +1,3 @@
+// What a mark and going back to one test and change: the order of marks, the undoing records and the tables that they touch.
+mod going_back;
+mod setting;
