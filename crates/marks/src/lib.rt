@@ -1,3 +1,4 @@
 // What a mark and going back to one test and change: the order of marks, the undoing records and the tables that they touch.
 mod going_back;
 mod setting;
+mod undoing;
