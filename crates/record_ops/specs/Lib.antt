@@ -3,3 +3,4 @@
 pub mod InRange
 pub mod Naming
 pub mod Turns
+pub mod Reserves

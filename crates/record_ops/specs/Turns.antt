@@ -1,7 +1,7 @@
 -- Down the log for the changes of a transaction that are left: what the walk does at each record, and what it leaves to do. An undoing
 -- record is met before the change that it undoes, so the walk keeps how many such changes are still to come. Assumes nothing.
 use Prim.Native.Nat.{ℕ, zero, suc, _+_, _-_, _<_, _≤_}
-use mathlib.Core.Path.{_≡_, refl, sym, ap, _∙_}
+use mathlib.Core.Path.{_≡_, refl, sym, _∙_}
 use mathlib.Core.Bool.{Bool, true, false, _&&_}
 use mathlib.Core.List.{List, [], _∷_}
 use lib.ListN.{length, drop}
@@ -9,7 +9,7 @@ use lib.Seq.{drop-nil}
 use lib.Dec.{eqb}
 use native.Mathlib.Numerals.{add-one}
 use native.Mathlib.Omega.{arith}
-use borrow.Author.Tests.{eqb-true, eqb-false, ne-eqb}
+use borrow.Author.Tests.{eqb-true, ne-eqb}
 use Rattle.words.specs.Tests.{if, by-bool}
 use Rattle.records.specs.declared.Record.{Record}
 use Rattle.records.specs.Records.{recordAt, isBegin, isChange, changesObject}
