@@ -2,3 +2,8 @@
 mod going_back;
 mod setting;
 mod undoing;
+
+pub use going_back::back_apply;
+pub use going_back::back_check;
+pub use setting::mark_apply;
+pub use setting::mark_check;

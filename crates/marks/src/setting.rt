@@ -1,15 +1,54 @@
 ghost use mathlib.Core.Path.{_≡_};
 ghost use mathlib.Core.Bool.{not, _&&_};
-ghost use Prim.Native.Nat.{_+_, _<_, _≤_};
+ghost use mathlib.Core.List.{List, []};
+ghost use Prim.Native.Nat.{ℕ, _+_, _<_, _≤_};
 ghost use lib.Dec.{eqb};
-ghost use lib.ListN.{length};
+ghost use lib.ListN.{length, getD};
 ghost use Rattle.words.specs.Tests.{if};
 ghost use Rattle.words.specs.Spans.{over};
 ghost use Rattle.records.specs.Records.{txnCount};
-ghost use Rattle.areas.specs.Layout.{HasUndoing, markCount};
+ghost use Rattle.areas.specs.Answers.{verdict};
+ghost use Rattle.areas.specs.Areas.{areas};
+ghost use Rattle.areas.specs.Layout.{HasUndoing, activeAt, markCount};
+ghost use Rattle.calls.specs.Transactions.{changesOf};
+ghost use Rattle.calls.specs.Marks.{movedUp, setLast, markTests, markSet};
+ghost use Rattle.store_ops.specs.Logs.{Kept};
 ghost use Rattle.marks.specs.Places.{setBut};
-ghost use Rattle.calls.specs.Marks.{movedUp, setLast};
+use areas::Check;
+use areas::Refusal;
 use areas::layout;
+use records::TXNS;
+
+// How many creates and sets of t are left.
+pub fn changes_of(log: &[u32], counts: &[u32], work: &[u32], n: usize, t: u32) -> u32
+    requires { ⌜ Kept (now log) (now counts) ⌝ }
+    requires { ⌜ HasUndoing (now work) n (getD (now counts) 0 0) × (t < txnCount) ⌝ }
+    ensures { λ y. ⌜ y ≡ length (changesOf (areas [] [] [] (now (log .entry)) (now (counts .entry)) (now (work .entry))) n t) ⌝ }
+{
+    let from = layout::undoing_at(n, 0);
+    record_ops::changes_left(
+        log,
+        work,
+        from,
+        counts[layout::RECEIVED] as usize,
+        t as usize,
+    )
+}
+
+// Refusals 3 and 4 of a mark, and of going back to one.
+pub fn mark_check(work: &[u32], t: u32, m: u32) -> Check
+    requires { ⌜ activeAt < length (now work) ⌝ }
+    ensures { λ r. ⌜ r ≡ verdict (markTests (areas [] [] [] [] [] (now (work .entry))) t m) ⌝ }
+{
+    if !((t < TXNS) & (m < layout::MARKS)) {
+        return Check::Refuse(Refusal::OutOfRange);
+    }
+    if store_ops::has(work, layout::ACTIVE_AT, t) {
+        Check::Accept
+    } else {
+        Check::Refuse(Refusal::WrongState)
+    }
+}
 
 // A place in the order after place a of a mark that is set moves up by one.
 fn moved_up(a: u32, b: u32) -> u32
@@ -45,7 +84,7 @@ fn move_up(work: &mut [u32], i: usize, m: usize, a: u32) -> u32
 }
 
 // Mark m leaves its place in the order of t's marks, if it has one, and becomes the last.
-pub fn set_last(work: &mut [u32], n: usize, t: u32, m: u32)
+fn set_last(work: &mut [u32], n: usize, t: u32, m: u32)
     requires { ⌜ HasUndoing (now work) n 0 × (t < txnCount) × (m < markCount) ⌝ }
     ensures { λ _. ⌜ now (work .exit) ≡ setLast (now (work .entry)) n t m ⌝ }
 {
@@ -54,4 +93,15 @@ pub fn set_last(work: &mut [u32], n: usize, t: u32, m: u32)
     let place = work[i];
     let others = move_up(work, first, m as usize, place);
     work[i] = others + 1;
+}
+
+// Mark m becomes the last of t's marks, and keeps how many changes of t are left.
+pub fn mark_apply(log: &[u32], counts: &[u32], work: &mut [u32], n: usize, t: u32, m: u32)
+    requires { ⌜ Kept (now log) (now counts) ⌝ }
+    requires { ⌜ HasUndoing (now work) n (getD (now counts) 0 0) × (t < txnCount) × (m < markCount) ⌝ }
+    ensures { λ _. ⌜ ((s c r : List ℕ) → areas s c r (now (log .entry)) (now (counts .entry)) (now (work .exit)) ≡ markSet (areas s c r (now (log .entry)) (now (counts .entry)) (now (work .entry))) n t m) ⌝ }
+{
+    let left = changes_of(log, counts, work, n, t);
+    set_last(work, n, t, m);
+    work[layout::marked_at(n, t as usize, m as usize)] = left;
 }

@@ -1,4 +1,3 @@
-use borrow.Author.Needs.{needs}
 use native.Mathlib.Omega.{arith}
 use Rattle.words.specs.Tests.{if-t, if-f, and-r}
 use mathlib.Core.Bool.{not}
@@ -8,18 +7,13 @@ use borrow.Author.Tests.{ltb-true}
 use Prim.Native.Nat.{_<_}
 use Rattle.marks.proofs.setting.moved_up.Statement.{statement}
 use Rattle.marks.proofs.setting.moved_up.Tie as tie
-use Rattle.marks.proofs.setting.moved_up.Reads as reads
-use Rattle.marks.proofs.setting.moved_up.Lts as lts
 
--- src/setting.rt:19:9
 sub-result : tie.Need-sub-result
 sub-result c = let h : c .before .args .a < c .before .args .b = ltb-true _ _ (and-r (not (eqb (c .before .args .a) 0)) _ (c .if1 .taken)) in omega arith
 
--- src/setting.rt:15:1
 returns : tie.Need-returns
 returns c = sym (if-t _ _ _ (c .if1 .taken))
 
--- src/setting.rt:15:1
 returns-2 : tie.Need-returns-2
 returns-2 c = sym (if-f _ _ _ (c .if1 .left))
 
