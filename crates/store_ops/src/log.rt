@@ -1,9 +1,9 @@
 ghost use mathlib.Core.Path.{_≡_};
-ghost use Prim.Native.Nat.{_+_, _<_, _≤_};
-ghost use lib.ListN.{length, getD, set};
+ghost use Prim.Native.Nat.{_+_, _≤_};
+ghost use lib.ListN.{getD, set};
 ghost use Rattle.records.specs.Records.{maxRecords, recorded};
 ghost use Rattle.records.specs.Effects.{effect};
-ghost use Rattle.areas.specs.Layout.{activeAt};
+ghost use Rattle.areas.specs.Layout.{HasUndoing};
 ghost use Rattle.store_ops.specs.Logs.{Kept, Fits, roomIn};
 use areas::layout;
 use records::RECORD_WORDS;
@@ -14,14 +14,15 @@ pub const CHANGE_ROOM: usize = 2;
 
 pub const SWEEP_ROOM: usize = 1;
 
-// Whether k more records fit beyond those used and reserved.
-pub fn room_beyond(log: &[u32], counts: &[u32], work: &[u32], k: usize) -> bool
+// Whether k more records fit beyond those used and reserved, in a store of n pages.
+pub fn room_beyond(log: &[u32], counts: &[u32], work: &[u32], n: usize, k: usize) -> bool
     requires { ⌜ Kept (now log) (now counts) ⌝ }
-    requires { ⌜ (activeAt < length (now work)) × (k ≤ maxRecords) ⌝ }
-    ensures { λ r. ⌜ r ≡ roomIn (now (log .entry)) (now (counts .entry)) (now (work .entry)) k ⌝ }
+    requires { ⌜ HasUndoing (now work) n (getD (now counts) 0 0) × (k ≤ maxRecords) ⌝ }
+    ensures { λ r. ⌜ r ≡ roomIn (now (log .entry)) (now (counts .entry)) (now (work .entry)) n k ⌝ }
 {
     let c = counts[layout::RECEIVED] as usize;
-    let held = record_ops::reserved(log, c, work[layout::ACTIVE_AT]) as usize;
+    let from = layout::undoing_at(n, 0);
+    let held = record_ops::reserved(log, work, from, c, work[layout::ACTIVE_AT]) as usize;
     c + held + k <= log.len() / RECORD_WORDS
 }
 
