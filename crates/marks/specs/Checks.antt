@@ -9,41 +9,28 @@ use lib.Seq.{length-take-le}
 use lib.Dec.{eqb}
 use native.Mathlib.Omega.{arith}
 use borrow.Author.Tests.{ltb-true, eq-eqb, ne-eqb}
-use Rattle.words.specs.Tests.{by-bool, and-split}
+use Rattle.words.specs.Tests.{and-split}
 use Rattle.records.specs.Records.{txnCount}
-use Rattle.records.specs.Changes.{noted, changesLeft}
-use Rattle.record_laws.specs.RecordLaws.{begunIn, changes-le}
 use Rattle.areas.specs.declared.Refusal.{Refusal}
 use Rattle.areas.specs.declared.Refusal.the-variants.{OutOfRange, WrongState, LogFull, Unmarked}
 use Rattle.areas.specs.declared.Check.{Check}
 use Rattle.areas.specs.declared.Check.the-variants.{Accept, Refuse}
 use Rattle.areas.specs.Answers.{Test, unless, verdict, passed, refuse-accept, all-passed, need-holds, need-fails}
 use Rattle.areas.specs.Areas.{Areas, areas, receivedCount}
-use Rattle.areas.specs.Layout.{HasUndoing, markCount, orderAt, undoingFrom, undoingAt, markedAt}
-use Rattle.areas.specs.Tables.{at, undoes, isTxn, isActive}
+use Rattle.areas.specs.Layout.{HasUndoing, markCount, markedAt, orderAt}
+use Rattle.areas.specs.Tables.{at, isTxn, isActive}
 use Rattle.calls.specs.Room.{roomWithin}
 use Rattle.calls.specs.Transactions.{changesOf}
 use Rattle.calls.specs.Marks.{isMark, markTests, sinceMark, backTests}
 use Rattle.acceptance.specs.Entered.{Open}
 use Rattle.acceptance.specs.Marks.{mark-facts, back-facts}
-use Rattle.store_ops.specs.Logs.{Kept, open-kept}
+use Rattle.store_ops.specs.Logs.{Kept, open-kept, leftIn}
 use Rattle.marks.specs.Going.{Goable}
 
--- the changes left as the code finds them, the undoing words beginning at word a
-pub changes-found : (g k w : List ℕ) (n t a : ℕ) {y : ℕ} → a ≡ undoingAt n 0 → y ≡ length (changesLeft (noted w a) g (getD k 0 0) t) → y ≡ length (changesOf (areas [] [] [] g k w) n t)
-changes-found g k w n t a p e = let q : a ≡ undoingFrom n = omega arith in e ∙ ap (λ (i : ℕ). length (changesLeft (noted w i) g (getD k 0 0) t)) q
-
-few-left : (u : ℕ → Bool) (g : List ℕ) (c t : ℕ) → length (changesLeft u g c t) ≤ c
-unfolding changesLeft
-few-left u g c t = by-bool (begunIn g t c) (λ e. rw e (changes-le u g t c)) (λ e. rw e (omega arith))
-
-pub few-found : (u : ℕ → Bool) (g : List ℕ) (c t : ℕ) {y : ℕ} → y ≡ length (changesLeft u g c t) → y ≤ c
-few-found u g c t e = let h = few-left u g c t in omega arith
-
--- those since mark m, whose number stands at word i
-module _ (g k w : List ℕ) (n t m : ℕ) {left i : ℕ} (e : left ≡ length (changesOf (areas [] [] [] g k w) n t)) (place : i ≡ markedAt n t m) where
+-- the changes left since mark m, whose number stands at word i
+module _ (g k w : List ℕ) (n t m : ℕ) {left i : ℕ} (e : left ≡ length (leftIn g k w n t)) (place : i ≡ markedAt n t m) where
   pub since-some : left - at w i ≡ length (sinceMark (areas [] [] [] g k w) n t m)
-  since-some = rw (e, place) (let l = changesOf (areas [] [] [] g k w) n t in sym (length-take-le (length l - at w (markedAt n t m)) l (omega arith)))
+  since-some = rw (e, place) (let l = leftIn g k w n t in sym (length-take-le (length l - at w (markedAt n t m)) l (omega arith)))
 
   pub since-none : left ≤ at w i → 0 ≡ length (sinceMark (areas [] [] [] g k w) n t m)
   since-none h = let q = since-some in omega arith

@@ -11,11 +11,11 @@ use Rattle.records.specs.Changes.{changesLeft}
 use Rattle.areas.specs.Areas.{Areas, areas, withWork, appended}
 use Rattle.areas.specs.Layout.{markCount, markedAt, orderAt}
 use Rattle.areas.specs.Tables.{at, undoes}
-use Rattle.calls.specs.Transactions.{changesOf}
 use Rattle.calls.specs.Marks.{orderOf, setLast, markSet, sinceMark, takenBack, wentBack, dropped, backTo}
+use Rattle.store_ops.specs.Logs.{leftIn}
 
 -- v: the tables with the mark as the last one; i: the word of its number
-pub marked-out : (s c a g k w : List ℕ) (n t m left : ℕ) (v : List ℕ) (i : ℕ) → left ≡ length (changesOf (areas [] [] [] g k w) n t) → v ≡ setLast w n t m → i ≡ markedAt n t m →
+pub marked-out : (s c a g k w : List ℕ) (n t m left : ℕ) (v : List ℕ) (i : ℕ) → left ≡ length (leftIn g k w n t) → v ≡ setLast w n t m → i ≡ markedAt n t m →
     areas s c a g k (set v i left) ≡ markSet (areas s c a g k w) n t m
 unfolding markSet
 marked-out s c a g k w n t m left v i e h p = rw (e, h, p)

@@ -10,10 +10,11 @@ use native.Mathlib.Numerals.{add-one}
 use native.Mathlib.Omega.{arith}
 use Rattle.words.specs.Tests.{if, count, count-same, if-t, if-f}
 use Rattle.words.specs.Counts.{count-most}
-use Rattle.words.specs.Spans.{over, over-next, over-outside}
+use Rattle.words.specs.Spans.{over, over-outside}
 use Rattle.areas.specs.Layout.{markCount, markedAt, orderAt}
 use Rattle.areas.specs.Tables.{at}
 use Rattle.calls.specs.Marks.{orderOf, othersSet, movedUp, setLast, dropped}
+use Rattle.store_ops.specs.Tables.{over-turn}
 
 -- how many of the first k marks but m are set, their places standing from word i
 unfoldable pub setBut : List ℕ → ℕ → ℕ → ℕ → ℕ
@@ -22,7 +23,7 @@ setBut w i m k = count (λ j. not (eqb j m) && not (eqb (at w (i + j)) 0)) k
 -- one more mark moved up and counted: x are the tables before it, b the word that the code read there
 module _ (w : List ℕ) (i m a j : ℕ) (x : List ℕ) (b : ℕ) (moved : x ≡ over (movedUp a) w i j) (read : b ≡ at x (i + j)) where
   pub places-next : (v : ℕ) → v ≡ movedUp a b → set x (i + j) v ≡ over (movedUp a) w i (j + 1)
-  places-next v e = rw (e, read, moved) (over-next (movedUp a) w i j)
+  places-next v e = over-turn (movedUp a) w i j x v moved (e ∙ ap (movedUp a) read)
 
   unmoved : b ≡ at w (i + j)
   unmoved = read ∙ ap (λ (l : List ℕ). at l (i + j)) moved ∙ over-outside (movedUp a) w i j (i + j) 0 (λ k l z. omega arith)

@@ -11,7 +11,6 @@ ghost use Rattle.areas.specs.Layout.{HasUndoing, markCount, markedAt, orderAt};
 ghost use Rattle.calls.specs.Marks.{orderOf, sinceMark, backTests, dropped, backTo};
 ghost use Rattle.store_ops.specs.Logs.{Kept};
 ghost use Rattle.marks.specs.Going.{Goable};
-use super::setting::changes_of;
 use super::setting::mark_check;
 use super::undoing::undo_newest;
 use areas::Check;
@@ -24,7 +23,7 @@ fn since_mark(log: &[u32], counts: &[u32], work: &[u32], n: usize, t: u32, m: u3
     requires { ⌜ HasUndoing (now work) n (getD (now counts) 0 0) × (t < txnCount) × (m < markCount) ⌝ }
     ensures { λ y. ⌜ (y ≡ length (sinceMark (areas [] [] [] (now (log .entry)) (now (counts .entry)) (now (work .entry))) n t m)) × (y ≤ maxRecords) ⌝ }
 {
-    let left = changes_of(log, counts, work, n, t);
+    let left = store_ops::changes_left(log, counts, work, n, t);
     let marked = work[layout::marked_at(n, t as usize, m as usize)];
     if marked < left { left - marked } else { 0 }
 }

@@ -10,7 +10,6 @@ ghost use Rattle.records.specs.Records.{txnCount};
 ghost use Rattle.areas.specs.Answers.{verdict};
 ghost use Rattle.areas.specs.Areas.{areas};
 ghost use Rattle.areas.specs.Layout.{HasUndoing, activeAt, markCount};
-ghost use Rattle.calls.specs.Transactions.{changesOf};
 ghost use Rattle.calls.specs.Marks.{movedUp, setLast, markTests, markSet};
 ghost use Rattle.store_ops.specs.Logs.{Kept};
 ghost use Rattle.marks.specs.Places.{setBut};
@@ -18,22 +17,6 @@ use areas::Check;
 use areas::Refusal;
 use areas::layout;
 use records::TXNS;
-
-// How many creates and sets of t are left.
-pub fn changes_of(log: &[u32], counts: &[u32], work: &[u32], n: usize, t: u32) -> u32
-    requires { ⌜ Kept (now log) (now counts) ⌝ }
-    requires { ⌜ HasUndoing (now work) n (getD (now counts) 0 0) × (t < txnCount) ⌝ }
-    ensures { λ y. ⌜ y ≡ length (changesOf (areas [] [] [] (now (log .entry)) (now (counts .entry)) (now (work .entry))) n t) ⌝ }
-{
-    let from = layout::undoing_at(n, 0);
-    record_ops::changes_left(
-        log,
-        work,
-        from,
-        counts[layout::RECEIVED] as usize,
-        t as usize,
-    )
-}
 
 // Refusals 3 and 4 of a mark, and of going back to one.
 pub fn mark_check(work: &[u32], t: u32, m: u32) -> Check
@@ -101,7 +84,7 @@ pub fn mark_apply(log: &[u32], counts: &[u32], work: &mut [u32], n: usize, t: u3
     requires { ⌜ HasUndoing (now work) n (getD (now counts) 0 0) × (t < txnCount) × (m < markCount) ⌝ }
     ensures { λ _. ⌜ ((s c r : List ℕ) → areas s c r (now (log .entry)) (now (counts .entry)) (now (work .exit)) ≡ markSet (areas s c r (now (log .entry)) (now (counts .entry)) (now (work .entry))) n t m) ⌝ }
 {
-    let left = changes_of(log, counts, work, n, t);
+    let left = store_ops::changes_left(log, counts, work, n, t);
     set_last(work, n, t, m);
     work[layout::marked_at(n, t as usize, m as usize)] = left;
 }

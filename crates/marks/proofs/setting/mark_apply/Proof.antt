@@ -4,7 +4,7 @@ use Rattle.marks.proofs.setting.mark_apply.Statement.{statement}
 use Rattle.marks.proofs.setting.mark_apply.Tie as tie
 
 returns : tie.Need-returns
-returns c = λ s d r. marked-out s d r _ _ _ _ _ _ _ _ _ (c .before .before .before .before .before .changes-of .ensures) (c .before .before .before .set-last .ensures) (c .marked-at .ensures)
+returns c = λ s d r. marked-out s d r _ _ _ _ _ _ _ _ _ (c .before .before .before .before .before .changes-left .ensures .0) (c .before .before .before .set-last .ensures) (c .marked-at .ensures)
 
 pub mark-apply-spec : {M : Type 1} → statement M
 mark-apply-spec =
