@@ -104,12 +104,12 @@ module _ (s : Areas) (n t m : ℕ) where
       back-full b = need-fails _ _ _ _ (rw e at b) ∙ need-holds _ _ _ _ marked ∙ need-holds _ _ _ _ active ∙ need-holds _ _ _ _ range
 
 -- what the code that makes the change needs of a call whose tests passed
-module _ (s : Areas) (n t m : ℕ) (o : Open s n) where
-  noted-records : HasUndoing (s .work) n (receivedCount s)
-  noted-records = let z = o .sized in let r = o .ranged in (omega arith, omega arith)
+pub noted-records : (s : Areas) (n : ℕ) → Open s n → HasUndoing (s .work) n (receivedCount s)
+noted-records s n o = let z = o .sized in let r = o .ranged in (omega arith, omega arith)
 
+module _ (s : Areas) (n t m : ℕ) (o : Open s n) where
   pub mark-ready : verdict (markTests s t m) ≡ Accept → Kept (s .log) (s .counts) × (HasUndoing (s .work) n (receivedCount s) × (t < txnCount) × (m < markCount))
-  mark-ready h = let f = mark-facts s t m h in (open-kept s n o, (noted-records, f .txn, f .mark))
+  mark-ready h = let f = mark-facts s t m h in (open-kept s n o, (noted-records s n o, f .txn, f .mark))
 
   pub back-ready : verdict (backTests s n t m) ≡ Accept → Goable (s .received) (s .log) (s .counts) (s .work) n t (length (sinceMark s n t m)) × (m < markCount)
   back-ready h = let f = back-facts s n t m h in let z = o .sized in (
