@@ -9,7 +9,7 @@ ghost use Rattle.areas.specs.Areas.{areas};
 ghost use Rattle.areas.specs.Layout.{HasUndoing};
 ghost use Rattle.areas.specs.Tables.{undoes};
 ghost use Rattle.calls.specs.Marks.{takenBack, wentBack};
-ghost use Rattle.marks.specs.Going.{Takeable, Goable, backBy};
+ghost use Rattle.marks.specs.Going.{Goable};
 use areas::layout;
 use pages::SLOTS;
 use record_ops::Turn;
@@ -26,23 +26,6 @@ fn note_back(work: &mut [u32], n: usize, t: u32, c: usize, r: Record)
     if r.kind == records::CREATE {
         store_ops::lose(work, layout::known_at(n, o), t);
     }
-}
-
-// Appends what undoes a change r of t.
-fn undo_change(
-    received: &mut [u32],
-    log: &mut [u32],
-    counts: &mut [u32],
-    work: &mut [u32],
-    n: usize,
-    t: u32,
-    r: Record,
-)
-    requires { ⌜ Takeable (now received) (now log) (now counts) (now work) n t r ⌝ }
-    ensures { λ _. ⌜ areas [] [] (now (received .exit)) (now (log .exit)) (now (counts .exit)) (now (work .exit)) ≡ backBy r n t (areas [] [] (now (received .entry)) (now (log .entry)) (now (counts .entry)) (now (work .entry))) ⌝ }
-{
-    note_back(work, n, t, counts[layout::RECEIVED] as usize, r);
-    let _ = store_ops::append(received, log, counts, record_ops::undoing(r));
 }
 
 // Undoes the newest k changes of t that are left, newest first: down the log until none is left to undo.
@@ -68,7 +51,9 @@ pub fn undo_newest(
         match turn {
             Turn::Past(p) => pending = p,
             Turn::Left => {
-                undo_change(received, log, counts, work, n, t, r);
+                let c = counts[layout::RECEIVED] as usize;
+                note_back(work, n, t, c, r);
+                let _ = store_ops::append(received, log, counts, record_ops::undoing(r));
                 left -= 1;
             }
         }

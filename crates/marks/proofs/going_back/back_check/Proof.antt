@@ -19,7 +19,7 @@ returns-2 : tie.Need-returns-2
 returns-2 c = back-unset _ _ _ _ (sym (mark-as _ _ _ _ _ _ _ _ (c .before .before .before .before .before .mark-check .ensures)) ∙ c .before .before .before .enum-told .given .1) (c .before .before .order-at .ensures) (c .if1 .taken)
 
 since-mark-requires : tie.Need-since-mark-requires
-since-mark-requires c κs = let f = mark-facts _ _ _ (sym (c .before .before .before .before .before .mark-check .ensures) ∙ c .before .before .before .enum-told .given .1) in (c .before .before .before .before .before .before .before .before .before .pre .0, (c .before .before .before .before .before .before .before .before .before .pre .1, f .txn, f .mark))
+since-mark-requires c κs = let f = mark-facts _ _ _ (sym (c .before .before .before .before .before .mark-check .ensures) ∙ c .before .before .before .enum-told .given .1) in (c .before .before .before .before .before .before .before .before .before .pre .0, (c .before .before .before .before .before .before .before .before .before .pre .1, omega arith, omega arith))
 
 returns-3 : tie.Need-returns-3
 returns-3 c = back-passes _ _ _ _ (sym (mark-as _ _ _ _ _ _ _ _ (c .before .before .before .before .before .before .before .before .mark-check .ensures)) ∙ c .before .before .before .before .before .before .enum-told .given .1) (c .before .before .before .before .before .order-at .ensures) (c .before .before .before .if1 .left) (c .before .before .since-mark .ensures .0) (sym (c .before .room-within .ensures) ∙ c .if2 .taken)

@@ -1,6 +1,6 @@
 use borrow.Author.Needs.{needs}
 use native.Mathlib.Omega.{arith}
-use Rattle.marks.specs.Going.{Going, going-start, going-some, going-inside, going-past, going-ready, going-left, going-end}
+use Rattle.marks.specs.Going.{Going, change-undone, going-start, going-some, going-inside, going-past, going-ready, going-left, going-end}
 use mathlib.Core.Path.{_∙_, sym}
 use Rattle.marks.proofs.undoing.undo_newest.Statement.{statement}
 use Rattle.marks.proofs.undoing.undo_newest.Tie as tie
@@ -46,14 +46,20 @@ loop-less c = let h = going-some _ _ _ _ _ _ _ _ _ _ _ _ _ _ (c .before .before 
 loop-again : tie.Need-loop-again Inv-loop μ-loop
 loop-again c = going-past _ _ _ _ _ _ _ _ _ _ _ _ _ _ (c .before .before .before .before .before .before .before .before .before .before .before .before .before .before .before .pre) (c .before .before .before .before .before .before .before .before .before .loop .inv) (c .before .before .before .before .before .before .before .before .loop-test .taken) _ _ (c .before .before .before .before .before .before .record-at .ensures) (c .before .before .before .before .before .undoing-at .ensures) _ (sym (c .before .before .before .turn-at .ensures) ∙ c .before .turn .given .1)
 
-undo-change-requires : tie.Need-undo-change-requires Inv-loop μ-loop
-undo-change-requires c κs = going-ready _ _ _ _ _ _ _ _ _ _ _ _ _ _ (c .before .before .before .before .before .before .before .before .before .before .before .before .before .before .before .before .before .before .pre) (c .before .before .before .before .before .before .before .before .before .before .before .before .loop .inv) (c .before .before .before .before .before .before .before .before .before .before .before .loop-test .taken) _ _ (c .before .before .before .before .before .before .before .before .before .record-at .ensures) (c .before .before .before .before .before .before .before .before .undoing-at .ensures) (sym (c .before .before .before .before .before .before .turn-at .ensures) ∙ c .before .before .before .before .enum-told .given .1)
+slice-read-c : tie.Need-slice-read-c Inv-loop μ-loop
+slice-read-c c = let h = c .before .before .before .before .before .before .before .before .before .loop .inv .counts-len in let k = c .before .before .before .before .before .before .before .before .before .before .before .before .before .before .before .pre .kept .two in omega arith
+
+note-back-requires : tie.Need-note-back-requires Inv-loop μ-loop
+note-back-requires c κs = let h = going-ready _ _ _ _ _ _ _ _ _ _ _ _ _ _ (c .before .before .before .before .before .before .before .before .before .before .before .before .before .before .before .before .pre) (c .before .before .before .before .before .before .before .before .before .before .loop .inv) (c .before .before .before .before .before .before .before .before .before .loop-test .taken) _ _ (c .before .before .before .before .before .before .before .record-at .ensures) (c .before .before .before .before .before .before .undoing-at .ensures) (sym (c .before .before .before .before .turn-at .ensures) ∙ c .before .before .enum-told .given .1) in let l = going-inside _ _ _ _ _ _ _ _ _ _ _ _ _ _ (c .before .before .before .before .before .before .before .before .before .before .before .before .before .before .before .before .pre) (c .before .before .before .before .before .before .before .before .before .before .loop .inv) (c .before .before .before .before .before .before .before .before .before .loop-test .taken) in (omega arith, h .object, omega arith, h .txn)
+
+append-requires : tie.Need-append-requires Inv-loop μ-loop
+append-requires c κs = rw (c .undoing .ensures) (going-ready _ _ _ _ _ _ _ _ _ _ _ _ _ _ (c .before .before .before .before .before .before .before .before .before .before .before .before .before .before .before .before .before .before .before .before .before .before .before .pre) (c .before .before .before .before .before .before .before .before .before .before .before .before .before .before .before .before .before .loop .inv) (c .before .before .before .before .before .before .before .before .before .before .before .before .before .before .before .before .loop-test .taken) _ _ (c .before .before .before .before .before .before .before .before .before .before .before .before .before .before .record-at .ensures) (c .before .before .before .before .before .before .before .before .before .before .before .before .before .undoing-at .ensures) (sym (c .before .before .before .before .before .before .before .before .before .before .before .turn-at .ensures) ∙ c .before .before .before .before .before .before .before .before .before .enum-told .given .1) .fits)
 
 loop-less-2 : tie.Need-loop-less-2 Inv-loop μ-loop
-loop-less-2 c = let h = going-some _ _ _ _ _ _ _ _ _ _ _ _ _ _ (c .before .before .before .before .before .before .before .before .before .before .before .before .before .before .before .before .before .before .before .before .before .before .before .before .before .before .before .pre) (c .before .before .before .before .before .before .before .before .before .before .before .before .before .before .before .before .before .before .before .before .before .loop .inv) (c .before .before .before .before .before .before .before .before .before .before .before .before .before .before .before .before .before .before .before .before .loop-test .taken) in omega arith
+loop-less-2 c = let h = going-some _ _ _ _ _ _ _ _ _ _ _ _ _ _ (c .before .before .before .before .before .before .before .before .before .before .before .before .before .before .before .before .before .before .before .before .before .before .before .before .before .before .before .before .before .before .pre) (c .before .before .before .before .before .before .before .before .before .before .before .before .before .before .before .before .before .before .before .before .before .before .before .before .loop .inv) (c .before .before .before .before .before .before .before .before .before .before .before .before .before .before .before .before .before .before .before .before .before .before .before .loop-test .taken) in omega arith
 
 loop-again-2 : tie.Need-loop-again-2 Inv-loop μ-loop
-loop-again-2 c = let k = c .before .before .before .before .before .before .before .before .undo-change .kept in going-left _ _ _ _ _ _ _ _ _ _ _ _ _ _ (c .before .before .before .before .before .before .before .before .before .before .before .before .before .before .before .before .before .before .before .before .before .before .before .before .before .before .before .pre) (c .before .before .before .before .before .before .before .before .before .before .before .before .before .before .before .before .before .before .before .before .before .loop .inv) (c .before .before .before .before .before .before .before .before .before .before .before .before .before .before .before .before .before .before .before .before .loop-test .taken) _ _ (c .before .before .before .before .before .before .before .before .before .before .before .before .before .before .before .before .before .before .record-at .ensures) (c .before .before .before .before .before .before .before .before .before .before .before .before .before .before .before .before .before .undoing-at .ensures) (sym (c .before .before .before .before .before .before .before .before .before .before .before .before .before .before .before .turn-at .ensures) ∙ c .before .before .before .before .before .before .before .before .before .before .before .before .before .enum-told .given .1) _ _ _ _ (k .0) (k .1 .0) (k .1 .1 .0) (k .1 .1 .1 .0) (c .before .before .before .before .before .before .before .before .undo-change .ensures)
+loop-again-2 c = let k = c .before .before .before .before .before .before .append .kept in going-left _ _ _ _ _ _ _ _ _ _ _ _ _ _ (c .before .before .before .before .before .before .before .before .before .before .before .before .before .before .before .before .before .before .before .before .before .before .before .before .before .before .before .before .before .before .pre) (c .before .before .before .before .before .before .before .before .before .before .before .before .before .before .before .before .before .before .before .before .before .before .before .before .loop .inv) (c .before .before .before .before .before .before .before .before .before .before .before .before .before .before .before .before .before .before .before .before .before .before .before .loop-test .taken) _ _ (c .before .before .before .before .before .before .before .before .before .before .before .before .before .before .before .before .before .before .before .before .before .record-at .ensures) (c .before .before .before .before .before .before .before .before .before .before .before .before .before .before .before .before .before .before .before .before .undoing-at .ensures) (sym (c .before .before .before .before .before .before .before .before .before .before .before .before .before .before .before .before .before .before .turn-at .ensures) ∙ c .before .before .before .before .before .before .before .before .before .before .before .before .before .before .before .before .enum-told .given .1) _ _ _ _ (k .0) (k .1 .0) (k .1 .1 .0) (c .before .before .before .before .before .before .before .before .before .before .before .before .before .note-back .kept .0) (change-undone _ _ _ _ _ _ _ _ _ _ _ _ _ (c .before .before .before .before .before .before .before .undoing .ensures) (c .before .before .before .before .before .before .before .before .before .before .before .before .before .note-back .ensures) (c .before .before .before .before .before .before .append .ensures))
 
 same-length : tie.Need-same-length Inv-loop μ-loop
 same-length c = c .before .loop .inv .pages-len
@@ -89,7 +95,11 @@ undo-newest-spec =
     loop-less
     loop-again
     (λ c. search needs)
-    undo-change-requires
+    slice-read-c
+    (λ c. search needs)
+    note-back-requires
+    (λ c κs. search needs)
+    append-requires
     (λ c. search needs)
     loop-less-2
     loop-again-2
