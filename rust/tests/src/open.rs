@@ -81,7 +81,7 @@ fn tried(mut held: Held) -> (Vec<u32>, bool, Areas) {
     held.cut();
     answers.extend([held.begin(0), held.reopen()]);
     let numbers = answers.iter().map(|answer| answer.number).collect();
-    (numbers, held.audit(), held.into_store().back())
+    (numbers, held.audit(), held.into_store().into_areas())
 }
 
 /// Opens a disk by both: the store's areas, or why not; or what differs.
@@ -98,7 +98,7 @@ fn open(disk: &Disk) -> Result<Result<Areas, NotHeld>, String> {
 fn formats_alike(pages: usize, records: usize) -> bool {
     let mut model = Model::new(pages, records);
     let expected = model.format().map(|_| model.areas).map_err(|_| NotHeld::Lengths);
-    Held::format(pages, records).map(|held| held.into_store().back()) == expected
+    Held::format(pages, records).map(|held| held.into_store().into_areas()) == expected
 }
 
 /// Calls and cuts from an opened store on: what the last of them leaves, and how many calls; or what differs or is not
