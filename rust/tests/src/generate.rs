@@ -128,7 +128,7 @@ impl Generator {
 
     /// One damaged word, in any area and any working table.
     fn damage(&mut self, a: &Areas) -> Action {
-        let pages = a.pages();
+        let (pages, records) = (a.pages(), a.records());
         let r = &mut self.random;
         let area = AREAS[r.weighted(&[10, 11, 11, 15, 8, 45])];
         let index = match area {
@@ -136,11 +136,11 @@ impl Generator {
                 single if single <= ACTIVE => single,
                 table => {
                     let table = TABLES[table - ACTIVE - 1];
-                    table.first(pages) + r.below(table.len(pages))
+                    table.first(pages) + r.below(table.len(pages, records))
                 }
             },
             Area::Log => {
-                let near = (a.received_count() + 1).min(a.log.len() / RECORD_WORDS);
+                let near = (a.received_count() + 1).min(records);
                 r.below(RECORD_WORDS * near)
             }
             Area::Counts => r.below(2),
@@ -151,7 +151,7 @@ impl Generator {
             }
         };
         let old = a.of(area)[index];
-        let value = match (area, bound(area, index, pages)) {
+        let value = match (area, bound(area, index, pages, records)) {
             (Area::Work, Some(largest)) if r.percent(25) => largest + 1,
             (Area::Work, Some(largest)) if r.percent(35) => r.below(largest as usize + 1) as u32,
             _ => odd_word(old, pages, r),
@@ -241,9 +241,8 @@ impl Generator {
 
     /// A call that the state takes, mostly.
     fn led(&mut self, a: &Areas) -> Request {
-        let records = a.log.len() / RECORD_WORDS;
         let active: Vec<u32> = (0..16).filter(|&t| a.work[ACTIVE] & bit(t) != 0).collect();
-        let room = records as isize - a.received_count() as isize - reserved(a) as isize;
+        let room = a.records() as isize - a.received_count() as isize - reserved(a) as isize;
         if room < 2 && self.random.percent(60) {
             return self.drain(a, &active);
         }
@@ -431,15 +430,15 @@ impl Generator {
 }
 
 /// The largest value of a working word.
-fn bound(area: Area, index: usize, pages: usize) -> Option<u32> {
+fn bound(area: Area, index: usize, pages: usize, records: usize) -> Option<u32> {
     if area != Area::Work {
         return None;
     }
     if index <= ACTIVE {
         return Some(largest_single(index, pages));
     }
-    let table = TABLES.into_iter().rfind(|table| table.first(pages) <= index);
-    table.map(Table::largest)
+    let table = TABLES.into_iter().find(|table| table.range(pages, records).contains(&index));
+    table.map(|table| table.largest(records))
 }
 
 /// With a buffer of another length now and then.
@@ -469,11 +468,13 @@ fn image(r: &mut Random) -> Image {
 
 fn reserved(a: &Areas) -> usize {
     let mut changes = [0usize; 16];
-    for i in 0..a.received_count().min(a.log.len() / RECORD_WORDS) {
+    for i in 0..a.received_count().min(a.records()) {
         let [kind, t, ..] = a.record(i);
+        let left = &mut changes[t as usize % 16];
         match kind {
-            1 => changes[t as usize % 16] = 0,
-            2 | 3 => changes[t as usize % 16] += 1,
+            1 => *left = 0,
+            2 | 3 | 6 if a.get(Table::Undoing, i) != 0 => *left = left.saturating_sub(1),
+            2 | 3 => *left += 1,
             _ => {}
         }
     }

@@ -109,7 +109,7 @@ fn go_on(areas: &Areas, random: &mut Random) -> Result<(Areas, u64), String> {
     let building = random.percent(20);
     let style = Style { cuts: 6, damage: 0, lengths: 0, wild: 40, crowd, building, filling: None };
     let mut generator = Generator::new(Random::new(random.next()), style, areas.pages()).going_on();
-    let mut pair = Pair::new(Kind::Library, MODEL, areas.pages(), areas.log.len() / RECORD_WORDS);
+    let mut pair = Pair::new(Kind::Library, MODEL, areas.pages(), areas.records());
     pair.load(areas);
     let mut calls = 0;
     for _ in 0..random.between(20, 400) {

@@ -30,8 +30,7 @@ fn noise(areas: &mut Areas, random: &mut Random) {
     }
     areas.work[REOPENING] = reopening_word;
     if random.percent(50) {
-        let records = areas.log.len() / RECORD_WORDS;
-        areas.counts[STABLE_COUNT] = random.below(records + 2) as u32;
+        areas.counts[STABLE_COUNT] = random.below(areas.records() + 2) as u32;
     }
 }
 
@@ -144,7 +143,7 @@ fn several_holders(areas: &mut Areas, page: usize, random: &mut Random) {
 }
 
 fn sound_log(areas: &mut Areas, random: &mut Random) {
-    let records = areas.log.len() / RECORD_WORDS;
+    let records = areas.records();
     // many calls need room: the log is full now and then only
     let received = match random.below(4) {
         0 => records,
@@ -167,7 +166,7 @@ fn put(areas: &mut Areas, i: usize, record: [u32; 6]) {
 }
 
 fn sound_work(areas: &mut Areas, random: &mut Random) {
-    let pages = areas.pages();
+    let (pages, records) = (areas.pages(), areas.records());
     // few transactions meet often
     let among = random.pick(&[0b11, 0b111, 0xffff]).unwrap();
     let thins = [1, 2, 3, 8, 40];
@@ -180,15 +179,27 @@ fn sound_work(areas: &mut Areas, random: &mut Random) {
     for table in TABLES {
         let thin = random.pick(&thins).unwrap();
         let zero = random.percent(25);
-        for i in 0..table.len(pages) {
-            let word = match table {
+        for at in table.range(pages, records) {
+            areas.work[at] = match table {
                 _ if zero => 0,
                 Table::Colours => random.below(3) as u32,
+                Table::LeftAtMarks => changes_at_mark(records, random),
+                Table::MarkOrder => random.below(table.largest(records) as usize + 1) as u32,
+                Table::Undoing => u32::from(random.below(thin + 1) == 0).min(table.largest(records)),
                 Table::Pruned | Table::Created if random.percent(10) => mask(random, thin) & among | FLAG,
                 _ => mask(random, thin) & among,
             };
-            areas.work[table.first(pages) + i] = word;
         }
+    }
+}
+
+/// Mostly few, as few changes are left; now and then as many as there may be.
+fn changes_at_mark(records: usize, random: &mut Random) -> u32 {
+    let most = Table::LeftAtMarks.largest(records) as usize;
+    match random.below(8) {
+        0 => most as u32,
+        1 => random.below(most + 1) as u32,
+        _ => random.below(most.min(3) + 1) as u32,
     }
 }
 
@@ -212,8 +223,7 @@ fn transactions_in(mask: u32) -> Vec<u32> {
 /// so that the replay goes through. Some logs have one record out of order, some have records of
 /// all kinds anywhere.
 fn reopening(areas: &mut Areas, random: &mut Random) {
-    let pages = areas.pages();
-    let records = areas.log.len() / RECORD_WORDS;
+    let (pages, records) = (areas.pages(), areas.records());
     noise(areas, random);
     areas.stored.fill(0);
     sound_pages(&mut areas.stored, pages, random);
