@@ -125,6 +125,8 @@ pub enum Filling {
     Linked,
     /// As `Sound`, with locks of several transactions on a page, together as no calls grant them.
     Contended,
+    /// As `Sound`, with many changes of a few transactions, undone or not, and marks in any order.
+    Marked,
     /// Sound stored pages and a stable log in order, for reopening; the rest as `Noise`.
     Reopening,
     /// As `Reopening`, with one word of the log or the stored pages damaged.

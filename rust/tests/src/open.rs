@@ -7,7 +7,7 @@ use model::layout::*;
 use model::{whole, Fault, Model, Refusal};
 
 use crate::actions::{Action, Filling};
-use crate::generate::{size, Generator, Style};
+use crate::generate::{size, Generator, Habit, Style};
 use crate::random::Random;
 use crate::rubbish::fill;
 use crate::run::Pair;
@@ -106,8 +106,8 @@ fn formats_alike(pages: usize, records: usize) -> bool {
 fn go_on(areas: &Areas, random: &mut Random) -> Result<(Areas, u64), String> {
     let audit = Action::from(Call::LockRead(16, 0));
     let crowd = random.between(1, 4);
-    let building = random.percent(20);
-    let style = Style { cuts: 6, damage: 0, lengths: 0, wild: 40, crowd, building, filling: None };
+    let habit = [Habit::Mixed, Habit::Building, Habit::Trying][random.weighted(&[50, 20, 30])];
+    let style = Style { cuts: 6, damage: 0, lengths: 0, wild: 40, crowd, habit, filling: None };
     let mut generator = Generator::new(Random::new(random.next()), style, areas.pages()).going_on();
     let mut pair = Pair::new(Kind::Library, MODEL, areas.pages(), areas.records());
     pair.load(areas);

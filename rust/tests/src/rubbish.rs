@@ -14,6 +14,7 @@ pub fn fill(filling: Filling, seed: u64, pages: usize, records: usize) -> Areas 
         Filling::Sound => sound(&mut areas, &mut random),
         Filling::Linked => linked(&mut areas, &mut random),
         Filling::Contended => contended(&mut areas, &mut random),
+        Filling::Marked => marked(&mut areas, &mut random),
         Filling::Reopening => reopening(&mut areas, &mut random),
         Filling::Damaged => {
             reopening(&mut areas, &mut random);
@@ -140,6 +141,42 @@ fn several_holders(areas: &mut Areas, page: usize, random: &mut Random) {
     }
     *areas.page_table(Table::Readers, page) = readers;
     *areas.page_table(Table::Writers, page) = writers;
+}
+
+/// One to three transactions run, with changes that going back undid or not: the undoing words stand at records
+/// of every kind, and above the received ones.
+fn marked(areas: &mut Areas, random: &mut Random) {
+    sound(areas, random);
+    let few = random.between(1, 3) as u32;
+    areas.work[ACTIVE] = bit(few) - 1;
+    let is_there = |&object: &u32| occupied(&areas.received, object);
+    let (there, free): (Vec<u32>, Vec<u32>) = (ROOT..=areas.objects()).partition(is_there);
+    for i in 0..areas.received_count() {
+        let t = random.below(few as usize) as u32;
+        let record = record_of(t, &there, &free, areas.pages(), random);
+        put(areas, i, record);
+    }
+    let records = areas.records();
+    let [left, order, undoing] = [Table::LeftAtMarks, Table::MarkOrder, Table::Undoing];
+    for at in 0..mark_at(few, 0) {
+        areas.table(left)[at] = changes_at_mark(records, random);
+        areas.table(order)[at] = random.below(order.largest(records) as usize + 1) as u32;
+    }
+    let thin = random.between(2, 8);
+    areas.table(undoing).fill_with(|| u32::from(random.below(thin) == 0).min(undoing.largest(records)));
+    single_holders(areas, random);
+}
+
+/// Mostly a set of an object that is there, or the create of one that is not: undone, they leave free slots zero.
+fn record_of(t: u32, there: &[u32], free: &[u32], pages: usize, random: &mut Random) -> [u32; 6] {
+    let created = random.pick(free).unwrap_or(ROOT + 1);
+    match random.weighted(&[4, 25, 50, 8, 10]) {
+        0 => [1, t, 0, 0, 0, 0],
+        1 => [2, t, created, 0, 0, 0],
+        2 => set_record(t, random.pick(there).unwrap(), pages, random),
+        3 => [6, t, created, 0, 0, 0],
+        _ => sound_record(pages, random),
+    }
 }
 
 fn sound_log(areas: &mut Areas, random: &mut Random) {
