@@ -23,7 +23,7 @@ use Rattle.calls.specs.Room.{roomWithin}
 use Rattle.calls.specs.Transactions.{endedTables, changesOf, rolledBack, restored, abortTests, aborted}
 use Rattle.acceptance.specs.Entered.{Open}
 use Rattle.acceptance.specs.Transactions.{abort-facts}
-use Rattle.store_ops.specs.Logs.{leftIn, counted, open-kept}
+use Rattle.store_ops.specs.Logs.{leftIn, counted, open-kept, open-undoing}
 use Rattle.aborts.specs.Rolling.{Undoable}
 
 -- the check, of the lists that it reads
@@ -60,7 +60,7 @@ abort-ready s n t o h =
     let r = f .room in (
       record {
         kept = open-kept s n o;
-        words = (let c = o .ranged .received-le in (z .top, omega arith));
+        words = open-undoing s n o;
         sound = (let m : length (s .received) / pageWords ≡ n = omega arith in rw m (o .ranged .records-sound));
         txn = f .txn;
         room = omega arith;
