@@ -20,7 +20,7 @@ use Rattle.records.specs.declared.Record.{Record}
 use Rattle.records.specs.Records.{made, recordAt, recorded, isBegin, isChange, changesObject, isSweep, recordWords, txnCount}
 use Rattle.records.specs.Soundness.{txnSound, namesObject, objectSound, fieldSound, newSound, referenceSound, wordSound, recordSound, recordsSound}
 use Rattle.records.specs.Order.{openNext, openIn, inOrder, logSound}
-use Rattle.records.specs.Changes.{changesIn}
+use Rattle.records.specs.Changes.{changesIn, changesLeft}
 use Rattle.records.specs.Naming.{namesPage, pageNamed}
 use Rattle.records.specs.Effects.{effect}
 use Rattle.records.specs.Recovery.{redone}
@@ -316,6 +316,10 @@ changes-le u g t (suc i) =
     (λ e. by-bool (u i && changesObject r t)
     (λ d. rw (e, d, length-drop 1 l) (omega arith))
     (λ d. by-bool (isChange r t) (λ f. rw (e, d, f) (omega arith)) (λ f. rw (e, d, f) (omega arith))))
+
+pub left-le : (u : ℕ → Bool) (g : List ℕ) (c t : ℕ) → length (changesLeft u g c t) ≤ c
+unfolding changesLeft
+left-le u g c t = by-bool (begunIn g t c) (λ e. rw e (changes-le u g t c)) (λ e. rw e (omega arith))
 
 pub changes-next : (u : ℕ → Bool) (g : List ℕ) (t i : ℕ) → changesNext (u i) t i (recordAt g i) (changesIn u g t i) ≡ changesIn u g t (i + 1)
 unfolding changesIn

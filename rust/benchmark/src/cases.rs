@@ -103,7 +103,8 @@ pub fn cases(size: Size, fill: Fill) -> Vec<Case> {
 }
 
 fn add(list: &mut Vec<Case>, name: &'static str, number: u32, store: &Store, call: Call) {
-    list.push(Case { name, number, call, image: Vec::new(), areas: store.clone().back(), floor: Floor::All });
+    let areas = store.clone().into_areas();
+    list.push(Case { name, number, call, image: Vec::new(), areas, floor: Floor::All });
 }
 
 /// Accepted in one state, refused with `number` in another, and refused with 1 where the accepting
