@@ -112,11 +112,11 @@ uint64_t kophdaen_store_page(
     const uint32_t *counts, size_t counts_words, const uint32_t *work, size_t work_words,
     uint32_t page);
 
-/* Sets both counts to 0. Value 0. */
+/* Sets both counts to 0, and the undoing words. Value 0. */
 uint64_t kophdaen_empty_log(
     const uint32_t *stored, size_t stored_words, const uint32_t *copies, size_t copies_words,
     const uint32_t *received, size_t received_words, const uint32_t *log, size_t log_words,
-    uint32_t *counts, size_t counts_words, const uint32_t *work, size_t work_words);
+    uint32_t *counts, size_t counts_words, uint32_t *work, size_t work_words);
 
 /* Value 0. */
 uint64_t kophdaen_start_pass(

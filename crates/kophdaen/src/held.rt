@@ -245,7 +245,7 @@ pub extern "C" fn kophdaen_held_empty_log(
     received: &[u32],
     log: &[u32],
     counts: &mut [u32],
-    work: &[u32],
+    work: &mut [u32],
 ) -> u64
     requires { ⌜ wellFormed true (areas (now stored) (now copies) (now received) (now log) (now counts) (now work)) ≡ true ⌝ }
     ensures { λ r. ⌜ r ≡ coded (callEmpty (areas (now (stored .entry)) (now (copies .entry)) (now (received .entry)) (now (log .entry)) (now (counts .entry)) (now (work .entry))) .answer) ⌝ }

@@ -249,7 +249,7 @@ pub extern "C" fn kophdaen_empty_log(
     received: &[u32],
     log: &[u32],
     counts: &mut [u32],
-    work: &[u32],
+    work: &mut [u32],
 ) -> u64
     ensures { λ r. ⌜ r ≡ coded (callEmpty (areas (now (stored .entry)) (now (copies .entry)) (now (received .entry)) (now (log .entry)) (now (counts .entry)) (now (work .entry))) .answer) ⌝ }
     ensures { λ _. ⌜ areas (now (stored .exit)) (now (copies .exit)) (now (received .exit)) (now (log .exit)) (now (counts .exit)) (now (work .exit)) ≡ callEmpty (areas (now (stored .entry)) (now (copies .entry)) (now (received .entry)) (now (log .entry)) (now (counts .entry)) (now (work .entry))) .after ⌝ }

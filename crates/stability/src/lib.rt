@@ -4,14 +4,14 @@ ghost use mathlib.Core.Bool.{true};
 ghost use mathlib.Core.List.{[]};
 ghost use Prim.Native.Nat.{_+_, _*_, _<_, _≤_};
 ghost use lib.ListN.{length, getD, set};
-ghost use Rattle.words.specs.Spans.{fill};
 ghost use Rattle.pages.specs.Geometry.{maxPages};
 ghost use Rattle.records.specs.Records.{recordWords, maxRecords};
 ghost use Rattle.records.specs.Soundness.{recordsSound};
 ghost use Rattle.areas.specs.Answers.{verdict};
 ghost use Rattle.areas.specs.Areas.{areas, countWords};
-ghost use Rattle.areas.specs.Layout.{HasUndoing, activeAt, undoingAt};
+ghost use Rattle.areas.specs.Layout.{HasUndoing, activeAt};
 ghost use Rattle.calls.specs.Stability.{forceTests, storeTests, emptyTests};
+ghost use Rattle.stability.specs.Checks.{unnoted};
 use areas::Check;
 use areas::Refusal;
 use areas::layout;
@@ -78,7 +78,7 @@ pub fn empty_check(stored: &[u32], copies: &[u32], counts: &[u32], work: &[u32])
 // Both counts become 0, and no undoing word of the l records stays.
 pub fn empty(counts: &mut [u32], work: &mut [u32], n: usize, l: usize)
     requires { ⌜ (countWords ≤ length (now counts)) × HasUndoing (now work) n l ⌝ }
-    ensures { λ _. ⌜ (now (counts .exit) ≡ set (set (now (counts .entry)) 0 0) 1 0) × (now (work .exit) ≡ fill (λ i. 0) (now (work .entry)) (undoingAt n 0) l) ⌝ }
+    ensures { λ _. ⌜ (now (counts .exit) ≡ set (set (now (counts .entry)) 0 0) 1 0) × (now (work .exit) ≡ unnoted (now (work .entry)) n l) ⌝ }
 {
     counts[layout::RECEIVED] = 0;
     counts[layout::STABLE] = 0;

@@ -19,7 +19,7 @@ use Rattle.record_ops.specs.InRange.{InRange, sound-in-range, sweep-in-range}
 use Rattle.areas.specs.declared.Answer.the-variants.{Done}
 use Rattle.areas.specs.Areas.{Areas, Out, countWords, areas, out, done, receivedCount, withWork, appended}
 use Rattle.areas.specs.Entry.{records}
-use Rattle.areas.specs.Layout.{activeAt, undoingFrom, undoingAt}
+use Rattle.areas.specs.Layout.{HasUndoing, activeAt, undoingFrom, undoingAt}
 use Rattle.areas.specs.Tables.{at, undoes}
 use Rattle.areas.specs.Ranges.{recordsIn}
 use Rattle.calls.specs.Room.{roomBeyond}
@@ -43,6 +43,10 @@ open-kept s n o =
       inside = omega arith;
       sound = records-sound-wider n maxPages (s .log) (receivedCount s) (z .top) (r .records-sound);
     }
+
+-- each of them has its undoing word
+pub open-undoing : (s : Areas) (n : ℕ) → Open s n → HasUndoing (s .work) n (receivedCount s)
+open-undoing s n o = let z = o .sized in let r = o .ranged .received-le in (z .top, omega arith)
 
 -- record r may be appended to log g with counts k, and takes effect on the pages a
 pub record Fits (a g k : List ℕ) (r : Record) : Type 0 where

@@ -14,6 +14,7 @@ use Rattle.calls.specs.Objects.{readTests, createTests, setTests, flushTests}
 use Rattle.calls.specs.Stability.{forceTests, storeTests, emptyTests}
 use Rattle.calls.specs.Pass.{passTests, sweepTests, stepTests}
 use Rattle.calls.specs.Reopening.{reopenTests, restepTests}
+use Rattle.calls.specs.Marks.{markTests, backTests}
 use Rattle.calls.specs.Chains.{chainTests}
 
 -- the tests of every call, on any areas and with any arguments
@@ -21,9 +22,9 @@ abbrev pub everyCall : Areas → ℕ → ℕ → ℕ → ℕ → ℕ → ℕ →
 everyCall s n t p o f v image =
     allTests true true s []
     ∷ formatTests s
-    ∷ beginTests s t
+    ∷ beginTests s n t
     ∷ commitTests s n t
-    ∷ abortTests s t
+    ∷ abortTests s n t
     ∷ lockReadTests s n t p
     ∷ lockWriteTests s n t p
     ∷ readTests s n t o
@@ -35,9 +36,11 @@ everyCall s n t p o f v image =
     ∷ emptyTests s
     ∷ passTests s
     ∷ stepTests s
-    ∷ sweepTests s v
+    ∷ sweepTests s n v
     ∷ reopenTests s
     ∷ restepTests s
+    ∷ markTests s t v
+    ∷ backTests s n t v
     ∷ chainTests s n o
     ∷ []
 
@@ -47,5 +50,5 @@ allNumbered [] = true
 allNumbered (ts ∷ rest) = numbered ts && allNumbered rest
 
 pub numbers-right : (s : Areas) (n t p o f v : ℕ) (image : List ℕ) → allNumbered (everyCall s n t p o f v image) ≡ true
-unfolding allNumbered numbered formatTests beginTests commitTests abortTests lockReadTests lockWriteTests readTests createTests setTests flushTests forceTests storeTests emptyTests passTests stepTests sweepTests reopenTests restepTests chainTests
+unfolding allNumbered numbered formatTests beginTests commitTests abortTests lockReadTests lockWriteTests readTests createTests setTests flushTests forceTests storeTests emptyTests passTests stepTests sweepTests reopenTests restepTests markTests backTests chainTests
 numbers-right s n t p o f v image = refl
