@@ -14,12 +14,12 @@ use Rattle.calls.specs.Objects.{readTests, createTests, setTests, flushTests}
 use Rattle.calls.specs.Stability.{forceTests, storeTests, emptyTests}
 use Rattle.calls.specs.Pass.{passTests, sweepTests, stepTests}
 use Rattle.calls.specs.Reopening.{reopenTests, restepTests}
-use Rattle.calls.specs.Marks.{markTests, backTests}
 use Rattle.calls.specs.Chains.{chainTests}
+use Rattle.calls.specs.Marks.{markTests, backTests}
 
 -- the tests of every call, on any areas and with any arguments
-abbrev pub everyCall : Areas → ℕ → ℕ → ℕ → ℕ → ℕ → ℕ → List ℕ → List (List Test)
-everyCall s n t p o f v image =
+abbrev pub everyCall : Areas → ℕ → ℕ → ℕ → ℕ → ℕ → ℕ → ℕ → List ℕ → List (List Test)
+everyCall s n t m p o f v image =
     allTests true true s []
     ∷ formatTests s
     ∷ beginTests s n t
@@ -39,9 +39,9 @@ everyCall s n t p o f v image =
     ∷ sweepTests s n v
     ∷ reopenTests s
     ∷ restepTests s
-    ∷ markTests s t v
-    ∷ backTests s n t v
     ∷ chainTests s n o
+    ∷ markTests s t m
+    ∷ backTests s n t m
     ∷ []
 
 -- each of several lists of tests has its refusals' numbers
@@ -49,6 +49,6 @@ unfoldable pub allNumbered : List (List Test) → Bool
 allNumbered [] = true
 allNumbered (ts ∷ rest) = numbered ts && allNumbered rest
 
-pub numbers-right : (s : Areas) (n t p o f v : ℕ) (image : List ℕ) → allNumbered (everyCall s n t p o f v image) ≡ true
-unfolding allNumbered numbered formatTests beginTests commitTests abortTests lockReadTests lockWriteTests readTests createTests setTests flushTests forceTests storeTests emptyTests passTests stepTests sweepTests reopenTests restepTests markTests backTests chainTests
-numbers-right s n t p o f v image = refl
+pub numbers-right : (s : Areas) (n t m p o f v : ℕ) (image : List ℕ) → allNumbered (everyCall s n t m p o f v image) ≡ true
+unfolding allNumbered numbered formatTests beginTests commitTests abortTests lockReadTests lockWriteTests readTests createTests setTests flushTests forceTests storeTests emptyTests passTests stepTests sweepTests reopenTests restepTests chainTests markTests backTests
+numbers-right s n t m p o f v image = refl
