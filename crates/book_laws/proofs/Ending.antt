@@ -27,7 +27,7 @@ use Rattle.book_laws.proofs.Running.{bool-same, runs-by, runs-it, ended
 use Rattle.book_laws.proofs.Committed.{Alike, Idle, alike-past}
 
 -- what touches an object and is no sweep names it
-touch : (r : Record) (x : ℕ) → touches r x ≡ true → isSweep r ≡ false
+pub touch : (r : Record) (x : ℕ) → touches r x ≡ true → isSweep r ≡ false
     → (((eqb (r .kind) 2 || eqb (r .kind) 3) ≡ true) ⊎ (r .kind ≡ 6)) × (eqb (r .object) x ≡ true)
 touch r x h s = elim (or-cases (names 3 r x) (makesOrFrees r x) h) [
   | inl e ↦ (let p = and-split (eqb (r .kind) 3) (eqb (r .object) x) e in (inl (or-r (eqb (r .kind) 2) (eqb (r .kind) 3) (p .0)), p .1))
@@ -41,13 +41,13 @@ touch r x h s = elim (or-cases (names 3 r x) (makesOrFrees r x) h) [
 ]
 
 -- two counts by owner agree if they do on what is neither a sweep nor struck out
-by-owner : (s k a b : Bool) → (s ≡ false → k ≡ false → a ≡ b) → (s || (not k && a)) ≡ (s || (not k && b))
+pub by-owner : (s k a b : Bool) → (s ≡ false → k ≡ false → a ≡ b) → (s || (not k && a)) ≡ (s || (not k && b))
 by-owner true k a b h = refl
 by-owner false true a b h = refl
 by-owner false false a b h = h refl refl
 
 -- the full pages' count as one
-full-owner : (s k a b : Bool) → ((s || (not k && a)) || (not k && b)) ≡ (s || (not k && (a || b)))
+pub full-owner : (s k a b : Bool) → ((s || (not k && a)) || (not k && b)) ≡ (s || (not k && (a || b)))
 full-owner true k a b = refl
 full-owner false true a b = refl
 full-owner false false a b = refl

@@ -19,3 +19,4 @@ pub mod Backing
 pub mod Soundness
 pub mod Sweeps
 pub mod Pages
+pub mod OwnPages

@@ -14,6 +14,7 @@ pub mod Stages
 pub mod Held
 pub mod Chains
 pub mod Cuts
+pub mod MarkOrder
 pub mod Committed
 pub mod Ledgers
 pub mod Granted
