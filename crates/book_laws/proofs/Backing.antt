@@ -1,6 +1,6 @@
 -- What can be taken back of a running transaction, as lines come and are struck out: its newest change undone shows the lines without it.
 -- Assumes nothing.
-use Prim.Native.Nat.{ℕ, zero, suc, _+_}
+use Prim.Native.Nat.{ℕ, suc}
 use native.Mathlib.Omega.{arith}
 use mathlib.Core.Path.{_≡_, refl, sym, ap, _∙_}
 use mathlib.Core.Bool.{Bool, true, false, not}
@@ -10,17 +10,16 @@ use lib.ListN.{length}
 use lib.Dec.{eqb}
 use borrow.Author.Tests.{eqb-true, eq-eqb, ne-eqb, eqb-false}
 use Rattle.words.specs.Tests.{if, by-bool, clash, or-cases, or-r}
-use Rattle.records.specs.declared.Record.{Record}
 use Rattle.records.specs.Records.{isCreate}
 use Rattle.machine_view.specs.View.{applied, unapplied, names}
-use Rattle.book.specs.Lines.{Line, struckOut, isLeft, left, struckNewest, filtered}
+use Rattle.book.specs.Lines.{Line, struckOut, isLeft, left, struckNewest}
 use Rattle.book.specs.Pointers.{makesOrFrees}
 use Rattle.collector.specs.Undo.{Item}
 use Rattle.book_laws.specs.Seen.{touches, Seen, acted, seen}
 use Rattle.book_laws.specs.Striking.{Strikes, none, stays, out, Every, done, and, Away, Before, Backs, nothing, past, here}
 use Rattle.book_laws.specs.Keeping.{In, Each}
 use Rattle.book_laws.specs.Keeping as Keeping
-use Rattle.book_laws.proofs.Undoing.{struck-not-left, strikes-length, strikes-newest, Newest, newest-here, newest-past, newest, struck-past, struck-here}
+use Rattle.book_laws.proofs.Undoing.{struck-not-left, strikes-length, strikes-newest, Newest, newest-here, newest-past, struck-past, struck-here}
 use Rattle.book_laws.proofs.Folds.{seen-past, seen-out, seen-on, seen-agree, seen-strikes}
 use Rattle.book_laws.proofs.Ends.{left-facts}
 

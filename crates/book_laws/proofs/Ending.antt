@@ -8,7 +8,7 @@ use mathlib.Core.List.{[], _∷_}
 use mathlib.Core.Logic.{_⊎_, inl, inr}
 use lib.Dec.{eqb}
 use borrow.Author.Tests.{eqb-true, eq-eqb, ne-eqb}
-use Rattle.words.specs.Tests.{if, by-bool, clash, and-split, and-l, and-false, or-cases, or-l, or-r, or-true, or-false}
+use Rattle.words.specs.Tests.{if, by-bool, clash, and-split, and-l, or-cases, or-l, or-r, or-true, or-false}
 use Rattle.pages.specs.Geometry.{pageOf}
 use Rattle.records.specs.declared.Record.{Record}
 use Rattle.records.specs.Records.{isSweep, commitOf, abortedOf}

@@ -2,12 +2,11 @@
 use Prim.Native.Nat.{ℕ, zero, suc, _+_, _-_, _≤_}
 use native.Mathlib.Omega.{arith}
 use mathlib.Core.Path.{_≡_, refl, sym, ap, _∙_}
-use mathlib.Core.Bool.{Bool, true, false, not, _&&_}
-use mathlib.Core.List.{List, _∷_}
+use mathlib.Core.Bool.{Bool, false, not, _&&_}
 use lib.Dec.{eqb}
 use Rattle.words.specs.Tests.{by-bool}
 use Rattle.records.specs.Records.{abortedOf}
-use Rattle.book.specs.Lines.{Line, line, left, undoneLines, newestCreates}
+use Rattle.book.specs.Lines.{left, undoneLines, newestCreates}
 use Rattle.book.specs.Books.{Book}
 use Rattle.book.specs.Feeding.{put, withLines, adds, ends, undoes, goesBack}
 use Rattle.book_laws.specs.After.{abortedBy}

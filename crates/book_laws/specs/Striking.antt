@@ -10,7 +10,7 @@ use Rattle.records.specs.Effects.{undoing}
 use Rattle.book.specs.Lines.{Line, line, struckOut, isLeft}
 use Rattle.collector.specs.Undo.{Item}
 use Rattle.machine_view.specs.View.{applied, unapplied}
-use Rattle.book_laws.specs.Seen.{Seen, touches, seen}
+use Rattle.book_laws.specs.Seen.{touches, seen}
 
 -- the undoing line of a line of i
 abbrev pub undoingLine : ℕ → Line → Line

@@ -1,13 +1,12 @@
 -- Every step but create and set keeps the invariant in every world that going back may lead to. Assumes nothing.
 use Prim.Native.Nat.{ℕ, _≤_}
-use native.Mathlib.Omega.{arith}
 use mathlib.Core.Path.{_≡_, refl, sym, ap, _∙_}
-use mathlib.Core.Bool.{Bool, true, false, not, cond}
-use mathlib.Core.List.{List, [], _∷_}
+use mathlib.Core.Bool.{Bool, true, false, not}
+use mathlib.Core.List.{[]}
 use mathlib.Core.Logic.{inl, inr}
 use lib.Dec.{eqb}
 use borrow.Author.Tests.{eqb-true, eqb-false, eq-eqb, ne-eqb, not-true}
-use Rattle.collector.specs.Bits.{_and_, _or_, by-bool, clash, and-l, and-r, and-intro, and-true, false-and, true-and, or-l, or-r, or-false, or-true, or-swap, or-and, or-false-l, or-false-r, or-cases}
+use Rattle.collector.specs.Bits.{_and_, _or_, by-bool, clash, and-l, and-r, and-intro, and-true, false-and, true-and, or-l, or-false, or-true, or-swap, or-and, or-false-l, or-false-r}
 use Rattle.collector.specs.Objects.{Obj, points, pageOf}
 use Rattle.collector.specs.State.{St, add, remove, drop}
 use Rattle.collector.specs.Calls.{begun, readLocked, writeLocked, learning, copying, flushed, dated, entered, cutting, owns, committed, aborted, started, marked, turned, advanced, dead, swept}
@@ -210,9 +209,12 @@ module _ (t : ℕ) where
       found : (c : ℕ → Bool) (s : St) (u : ℕ) (i : Item) → true ≡ true → Own s u i → Inv s → LearnFacts s t c → LearnFacts (popped s u i) t (less c u i)
       found c s u i q o j f = record {
         knows = λ x h. elim (f .knows x (and-l _ _ h)) [
-          | inl k ↦ inl (k .0, by-bool (eqb x (i .o))
-              (λ e. rw e (still x (k .0) e (and-r _ _ h)))
-              (λ e. rw e (k .1)))
+          | inl k ↦ inl (
+            k .0,
+            by-bool (eqb x (i .o))
+                (λ e. rw e (still x (k .0) e (and-r _ _ h)))
+                (λ e. rw e (k .1)),
+          )
           | inr k ↦ inr k
         ];
       }

@@ -8,7 +8,7 @@ use mathlib.Core.Logic.{inl, inr}
 use lib.Dec.{eqb}
 use borrow.Author.Tests.{eqb-true, eqb-false, eq-eqb, ne-eqb}
 use Rattle.collector.specs.Bits.{_and_, _or_, by-bool, clash, and-r, and-false, false-and, or-false, or-swap}
-use Rattle.collector.specs.Objects.{Obj, pageOf}
+use Rattle.collector.specs.Objects.{pageOf}
 use Rattle.collector.specs.State.{Locks, St, add}
 use Rattle.collector.specs.Calls.{pruned, entered, created, cutting, written}
 use Rattle.collector.specs.Undo.{Item, Stacks, with, push, forgotten, popped, itemOf}

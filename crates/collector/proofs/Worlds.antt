@@ -3,13 +3,13 @@
 use Prim.Native.Nat.{ℕ, zero, suc}
 use native.Mathlib.Omega.{arith}
 use mathlib.Core.Path.{_≡_, refl, sym, _∙_}
-use mathlib.Core.Bool.{Bool, true, false, cond}
+use mathlib.Core.Bool.{Bool, true}
 use mathlib.Core.List.{List, [], _∷_}
 use lib.Dec.{eqb}
 use borrow.Author.Tests.{eqb-true}
 use Rattle.collector.specs.Bits.{by-bool}
-use Rattle.collector.specs.Objects.{Obj, Tag, pageOf}
-use Rattle.collector.specs.State.{Locks, Pass, St}
+use Rattle.collector.specs.Objects.{pageOf}
+use Rattle.collector.specs.State.{St}
 use Rattle.collector.specs.Undo.{Item, Stacks, with, popped}
 use Rattle.collector.proofs.Invariant.{Inv}
 

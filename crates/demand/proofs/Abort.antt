@@ -1,18 +1,16 @@
 -- An accepted abort keeps the invariant: all changes left are undone, then t ends. n is the number of pages. Assumes nothing.
-use Prim.Native.Nat.{ℕ, suc, _+_, _*_, _≤_, _<_}
+use Prim.Native.Nat.{ℕ, suc, _+_, _≤_, _<_}
 use native.Mathlib.Omega.{arith}
 use mathlib.Core.Path.{_≡_, refl, sym, ap, _∙_, subst}
 use mathlib.Core.Bool.{Bool, true, false}
 use mathlib.Core.List.{List, [], _∷_}
 use lib.ListN.{length, take, drop}
 use lib.Seq.{take-all}
-use lib.Dec.{eqb}
 use borrow.Author.Tests.{ne-eqb}
 use Rattle.words.specs.Tests.{by-bool}
-use Rattle.words.specs.Bits.{bit, withoutBit}
-use Rattle.pages.specs.Geometry.{pageWords}
+use Rattle.words.specs.Bits.{bit}
 use Rattle.records.specs.declared.Record.{Record}
-use Rattle.records.specs.Records.{recordAt, txnCount, abortedOf}
+use Rattle.records.specs.Records.{txnCount, abortedOf}
 use Rattle.records.specs.Effects.{effect}
 use Rattle.records.specs.Order.{openIn, openNext}
 use Rattle.record_laws.specs.SoundRecords.{aborted-sound}
@@ -23,17 +21,16 @@ use Rattle.areas.specs.Ranges.{recordsIn}
 use Rattle.areas.specs.Tables.{undoes}
 use Rattle.areas.specs.Entry.{records}
 use Rattle.calls.specs.Calls.{abort}
-use Rattle.calls.specs.Transactions.{callAbort, aborted, endedTables, changesOf, rolledBack, restored}
+use Rattle.calls.specs.Transactions.{callAbort, aborted, endedTables, changesOf, restored}
 use Rattle.calls.specs.Marks.{wentBack}
 use Rattle.acceptance.specs.Entered.{Open, opened}
 use Rattle.acceptance.specs.Transactions as Accepted
-use Rattle.book.specs.Lines.{Line, line, left, undoneLines, filtered}
+use Rattle.book.specs.Lines.{line, left, undoneLines, filtered}
 use Rattle.book.specs.Books.{Book, countsFull, fullPages, fullLines}
 use Rattle.book.specs.Feeding as Feeding
 use Rattle.book.specs.Feeding.{fed, goesBack, put}
 use Rattle.collector.specs.Objects.{Obj, pageOf}
-use Rattle.collector.specs.State.{St, Locks, Tables, Pass, mix}
-use Rattle.collector.specs.State as State
+use Rattle.collector.specs.State.{St, Locks, Pass, mix}
 use Rattle.collector.specs.Calls as Calls
 use Rattle.collector.specs.Undo.{Stacks, with}
 use Rattle.collector.proofs.Worlds.{Deep, inv-of, deep-same}
@@ -51,7 +48,7 @@ use Rattle.recovery_proof.proofs.Decided.{SameCells, same-longer}
 use Rattle.recovery_proof.proofs.Maps.{Small}
 use Rattle.recovery_proof.proofs.Steps.{logOf, log-end}
 use Rattle.book_laws.specs.Seen.{Seen, seenCommitted, seenFull}
-use Rattle.book_laws.specs.Keeping.{Runs, SoundBook, BookInv}
+use Rattle.book_laws.specs.Keeping.{Runs, SoundBook}
 use Rattle.book_laws.specs.After.{abortedBy}
 use Rattle.book_laws.proofs.Members.{each-cons}
 use Rattle.book_laws.proofs.Undoing.{left-length}
@@ -60,7 +57,7 @@ use Rattle.book_laws.proofs.Ending.{abort-committed, abort-agree, abort-full, a
 use Rattle.book_laws.proofs.Finishing.{abort-inv}
 use Rattle.book_laws.proofs.GoingBack.{went-left, aborted-book}
 use Rattle.book_laws.proofs.Openness as Openness
-use Rattle.demand.proofs.State.{machine, received, logged, OpenInv}
+use Rattle.demand.proofs.State.{machine, received, OpenInv}
 use Rattle.demand.proofs.LeftRecords.{recordsOf, records-left, records-length, left-same}
 use Rattle.demand.proofs.Notes.{leftEntries}
 use Rattle.demand.proofs.Change.{machine-shows, full-shown}

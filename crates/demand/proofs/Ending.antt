@@ -1,6 +1,6 @@
 -- The end of a transaction, by commit or abort: what the tables and the book then say of locks and knowledge. n is the number of pages.
 -- Assumes nothing.
-use Prim.Native.Nat.{ℕ, _+_, _*_, _<_, _≤_}
+use Prim.Native.Nat.{ℕ, _+_, _<_, _≤_}
 use native.Mathlib.Omega.{arith}
 use mathlib.Core.Path.{_≡_, refl, sym, ap, _∙_, subst}
 use mathlib.Core.Bool.{Bool, true, false, not, _&&_, _||_}
@@ -38,7 +38,7 @@ use Rattle.demand.proofs.State.{machine, Going, OpenInv}
 use Rattle.demand.proofs.LeftRecords.{leftNext, leftRecords, left-append}
 use Rattle.demand.proofs.Notes.{leftEntries}
 use Rattle.demand.proofs.Going.{away-all, backs-past}
-use Rattle.records.specs.Records.{txnCount, recordWords, recorded}
+use Rattle.records.specs.Records.{txnCount, recorded}
 
 both-ways : (a b : Bool) → (a && not b) ≡ (not b and a)
 unfolding _and_

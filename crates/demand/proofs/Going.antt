@@ -1,26 +1,23 @@
 -- What going back may lead to, after a call: where lines stay, and where one comes. n is the number of pages. Assumes nothing.
-use Prim.Native.Nat.{ℕ, suc}
-use mathlib.Core.Path.{_≡_, refl, sym, ap, _∙_}
+use Prim.Native.Nat.{ℕ}
+use mathlib.Core.Path.{_≡_, refl}
 use mathlib.Core.Bool.{Bool, true, false}
 use mathlib.Core.List.{List, [], _∷_}
-use lib.Dec.{eqb}
-use borrow.Author.Tests.{eqb-true}
-use Rattle.words.specs.Tests.{by-bool, clash}
 use Rattle.pages.specs.Geometry as Geometry
 use Rattle.records.specs.declared.Record.{Record}
 use Rattle.areas.specs.Areas.{Areas, receivedCount}
 use Rattle.book.specs.Lines.{Line, isLeft}
 use Rattle.book.specs.Books.{Book, runs, countsFull}
-use Rattle.collector.specs.Undo.{Item, Stacks, with}
+use Rattle.collector.specs.Undo.{Item}
 use Rattle.collector.proofs.Worlds.{Deep}
 use Rattle.machine_calls.specs.Tables.{locksOf}
 use Rattle.book_laws.specs.Seen.{touches}
 use Rattle.book_laws.specs.Striking.{Every, done, and, Away, Backs, past}
-use Rattle.book_laws.specs.Keeping.{In, Each, Runs, Writers}
-use Rattle.book_laws.proofs.Backing.{every-map, backs-every, backs-agree}
+use Rattle.book_laws.specs.Keeping.{In, Runs, Writers}
+use Rattle.book_laws.proofs.Backing.{backs-every, backs-agree}
 use Rattle.book_laws.proofs.Openness.{open-intro}
 use Rattle.demand.proofs.State.{machine, Going}
-use Rattle.demand.proofs.Notes.{Behind, Notes, notes-quiet}
+use Rattle.demand.proofs.Notes.{Behind, notes-quiet}
 
 -- a record that touches nothing
 pub away-all : (r : Record) (us : List Item) → ((x : ℕ) → touches r x ≡ false) → Away r us

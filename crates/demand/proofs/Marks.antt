@@ -3,15 +3,15 @@ use Prim.Native.Nat.{ℕ, zero, suc, _+_, _*_, _-_, _≤_, _<_}
 use native.Mathlib.Omega.{arith}
 use native.Mathlib.Decide.{ℕ-discrete}
 use mathlib.Core.Path.{_≡_, refl, sym, ap, _∙_, subst}
-use mathlib.Core.Bool.{Bool, true, false, not, _&&_}
+use mathlib.Core.Bool.{true, not}
 use mathlib.Core.List.{List}
-use mathlib.Core.Logic.{_⊎_, inl, inr}
+use mathlib.Core.Logic.{inr}
 use lib.ListN.{length, set, take, length-set}
 use lib.Seq.{getD-set-same, getD-set-other, length-take-le}
 use lib.Dec.{eqb, ltb}
-use borrow.Author.Tests.{eqb-true, eq-eqb, ne-eqb, le-ltb}
-use Rattle.words.specs.Tests.{if, by-bool, and-false}
-use Rattle.words.specs.Spans.{over, length-over, over-inside, over-outside}
+use borrow.Author.Tests.{eq-eqb, ne-eqb, le-ltb}
+use Rattle.words.specs.Tests.{by-bool, and-false}
+use Rattle.words.specs.Spans.{over, over-inside, over-outside}
 use Rattle.records.specs.Records.{txnCount}
 use Rattle.areas.specs.Answers.{accepted}
 use Rattle.areas.specs.Areas.{Areas, Out, receivedCount, withWork}
@@ -24,9 +24,8 @@ use Rattle.acceptance.specs.Entered.{Open, opened}
 use Rattle.acceptance.specs.Marks as Accepted
 use Rattle.book.specs.Lines.{left}
 use Rattle.book.specs.Books.{Book, runs}
-use Rattle.book.specs.Feeding.{put, marks, goesBack, fed}
+use Rattle.book.specs.Feeding.{marks, goesBack, fed}
 use Rattle.collector.specs.State.{Tables}
-use Rattle.machine_calls.specs.Tables.{locksOf, tablesOf}
 use Rattle.machine_calls.proofs.Frames.{Beside, beside-set, beside-back, wider, later, locks-kept, tables-kept, pass-kept}
 use Rattle.machine_calls.proofs.Facts.{act-is}
 use Rattle.machine_calls.proofs.TakenBack.{set-last-beside, dropped-beside}
@@ -34,7 +33,7 @@ use Rattle.book_laws.specs.Keeping.{Runs}
 use Rattle.book_laws.proofs.Invariant.{mark-inv}
 use Rattle.demand.proofs.State.{machine, OpenInv}
 use Rattle.demand.proofs.LeftRecords.{recordsOf, records-take, left-same}
-use Rattle.demand.proofs.Notes.{leftEntries, Notes}
+use Rattle.demand.proofs.Notes.{leftEntries}
 use Rattle.demand.proofs.NoRecord.{log-quiet}
 use Rattle.demand.proofs.Change.{machine-shows}
 use Rattle.demand.proofs.Unlogged.{open-unlocked, open-noted}
@@ -179,8 +178,11 @@ module _ (n : ℕ) (some : 1 ≤ n) (s : Areas) (b : Book) (i : OpenInv n s b) (
   unset = let a = f .txn in let c = f .mark in wider (beside-set (s .work) (orderAt n t m) 0) (omega arith) (omega arith)
 
   unset-others : (u k : ℕ) → u < txnCount → k < markCount → (orderOf w₀ n u k ≡ 0 → ⊥) → ((u ≡ t) × (k ≡ m) → ⊥) × (at w₀ (markedAt n u k) ≡ b .marked u k)
-  unset-others u k a c z = let p = apart in (p, getD-set-other (s .work) (orderAt n t m) (markedAt n u k) 0 0 (λ e. omega arith)
-      ∙ i .going .notes .marks u k a c (λ e. z (getD-set-other (s .work) (orderAt n t m) (orderAt n u k) 0 0 (λ y. p (same-place u k t m c (f .mark) (omega arith))) ∙ e)))
+  unset-others u k a c z = let p = apart in (
+    p,
+    getD-set-other (s .work) (orderAt n t m) (markedAt n u k) 0 0 (λ e. omega arith)
+        ∙ i .going .notes .marks u k a c (λ e. z (getD-set-other (s .work) (orderAt n t m) (orderAt n u k) 0 0 (λ y. p (same-place u k t m c (f .mark) (omega arith))) ∙ e)),
+  )
     where
       apart : (u ≡ t) × (k ≡ m) → ⊥
       apart p = z (ap (at w₀) (place p) ∙ getD-set-same (s .work) (orderAt n t m) 0 0 (let e = len in let a = f .txn in let d = f .mark in omega arith))

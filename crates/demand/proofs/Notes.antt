@@ -3,20 +3,19 @@
 use Prim.Native.Nat.{ℕ, _+_, _*_, _-_, _≤_, _<_}
 use native.Mathlib.Omega.{arith}
 use native.Mathlib.Decide.{decLe, decLt}
-use mathlib.Core.Path.{_≡_, refl, sym, ap, _∙_, subst}
+use mathlib.Core.Path.{_≡_, refl, ap, _∙_, subst}
 use mathlib.Core.Bool.{Bool, true, false, not}
 use mathlib.Core.List.{List, [], _∷_}
-use lib.ListN.{length, drop}
+use lib.ListN.{length}
 use lib.Dec.{eqb}
-use Rattle.words.specs.Tests.{if, by-bool, and-false}
 use Rattle.words.specs.Spans.{fill, fill-inside, fill-outside}
 use Rattle.records.specs.declared.Record.{Record}
-use Rattle.records.specs.Records.{recordWords, txnCount, recorded, isBegin, isChange, changesObject}
+use Rattle.records.specs.Records.{recordWords, txnCount, recorded, isBegin, isChange}
 use Rattle.areas.specs.Areas.{Areas, receivedCount}
 use Rattle.areas.specs.Layout.{tableWords, markCount, markedAt, orderAt, undoingAt}
 use Rattle.areas.specs.Tables.{at, undoes}
 use Rattle.calls.specs.Marks.{orderOf}
-use Rattle.book.specs.Lines.{Line, isLeft, filtered}
+use Rattle.book.specs.Lines.{isLeft, filtered}
 use Rattle.book.specs.Books.{Book}
 use Rattle.book_laws.specs.Striking.{entries}
 use Rattle.book_laws.specs.Keeping.{Runs}

@@ -3,7 +3,7 @@
 use Prim.Native.Nat.{ℕ, suc, _+_, _*_, _≤_, _<_}
 use native.Mathlib.Omega.{arith}
 use mathlib.Core.Path.{_≡_, refl, sym, ap, _∙_, subst}
-use mathlib.Core.Bool.{Bool, true, false, not, _&&_, _||_}
+use mathlib.Core.Bool.{Bool, true, false, not, _||_}
 use mathlib.Core.List.{List, [], _∷_}
 use mathlib.Core.Logic.{inl, inr}
 use lib.ListN.{length, drop, length-set}
@@ -16,15 +16,15 @@ use Rattle.pages.specs.Geometry as Geometry
 use Rattle.pages.specs.Geometry.{objectCount, pageWords}
 use Rattle.pages.specs.Objects.{occupied}
 use Rattle.records.specs.declared.Record.{Record}
-use Rattle.records.specs.Records.{recorded, recordWords, txnCount, isBegin, isChange, isCreate, changesObject}
+use Rattle.records.specs.Records.{recorded, recordWords, txnCount, isCreate, changesObject}
 use Rattle.records.specs.Effects.{effect, undoing}
 use Rattle.records.specs.Soundness.{recordSound}
-use Rattle.records.specs.Order.{openIn, openNext, inOrder}
-use Rattle.record_laws.specs.RecordLaws.{SoundRecord, sound-record, recorded-length}
+use Rattle.records.specs.Order.{openIn, openNext}
+use Rattle.record_laws.specs.RecordLaws.{sound-record, recorded-length}
 use Rattle.record_laws.specs.SoundRecords.{undoing-sound}
 use Rattle.record_laws.specs.EffectLaws.{length-effect}
 use Rattle.areas.specs.Areas.{Areas, receivedCount, withWork, appended}
-use Rattle.areas.specs.Layout.{tableWords, markCount, markedAt, orderAt, undoingAt}
+use Rattle.areas.specs.Layout.{tableWords, markedAt, orderAt, undoingAt}
 use Rattle.areas.specs.Tables.{at, undoes}
 use Rattle.areas.specs.Entry.{records}
 use Rattle.acceptance.specs.Lengths.{Sized}
@@ -49,7 +49,7 @@ use Rattle.machine_calls.proofs.Frames.{reopening-kept}
 use Rattle.machine_calls.proofs.TakenBack.{back-beside, back-locks, back-tables, back-pass, back-above, back-noted}
 use Rattle.machine_calls.proofs.Shows.{Shows, back-shows}
 use Rattle.recovery_proof.proofs.Invariant as Recovery
-use Rattle.recovery_proof.proofs.Decided.{SameCells, same-longer}
+use Rattle.recovery_proof.proofs.Decided.{same-longer}
 use Rattle.recovery_proof.proofs.Maps.{Small, small-effect}
 use Rattle.recovery_proof.proofs.Reversal.{Change, undoing-names, undoing-object, undoing-was, undoing-back, undoing-order, undoing-open}
 use Rattle.recovery_proof.proofs.Shapes.{unnamed}
@@ -66,7 +66,7 @@ use Rattle.book_laws.proofs.Committed.{Alike, alike-undoing, alike-below, filte
 use Rattle.book_laws.proofs.Backing.{every-map, change-other, shows, Undone, backs-undone, backs-strikes, backs-length, backs-agree}
 use Rattle.book_laws.proofs.Openness.{open-intro, open-undo}
 use Rattle.book_laws.proofs.Soundness.{undo-sound}
-use Rattle.demand.proofs.State.{machine, received, logged, Going, OpenInv}
+use Rattle.demand.proofs.State.{machine, received, OpenInv}
 use Rattle.demand.proofs.LeftRecords.{leftNext, leftRecords, left-append, left-same}
 use Rattle.demand.proofs.Notes.{leftEntries, Notes}
 use Rattle.demand.proofs.Going.{items-own}
@@ -117,8 +117,13 @@ module _ (r : Record) (t : ℕ) (mine : r .txn ≡ t) where
     away = ne-eqb (undoing r .txn) u (λ z. eqb-false u t n (sym z ∙ undoing-kind r .txn ∙ mine))
 
     pub left-undoing : (b : Bool) (before : List Record) → leftNext b u (undoing r) before ≡ before
-    left-undoing b before = rw (away, and-false (eqb (undoing r .kind) 1), and-false (eqb (undoing r .kind) 2 || eqb (undoing r .kind) 3 || eqb (undoing r .kind) 6),
-      and-false (eqb (undoing r .kind) 2 || eqb (undoing r .kind) 3), and-false b)
+    left-undoing b before = rw (
+      away,
+      and-false (eqb (undoing r .kind) 1),
+      and-false (eqb (undoing r .kind) 2 || eqb (undoing r .kind) 3 || eqb (undoing r .kind) 6),
+      and-false (eqb (undoing r .kind) 2 || eqb (undoing r .kind) 3),
+      and-false b,
+    )
 
 module _ (n : ℕ) (some : 1 ≤ n) (s : Areas) (b : Book) (i : OpenInv n s b) (z : Sized s n) (t : ℕ) (run : Runs b t) (small : t < txnCount)
     (k : ℕ) (more : left (b .running t) (b .lines) ≡ suc k) (room : receivedCount s + 1 ≤ records s) where

@@ -3,12 +3,11 @@ use Prim.Native.Nat.{ℕ, _≤_, _<_}
 use native.Mathlib.Nat.{le-refl, le-trans}
 use mathlib.Core.Path.{_≡_, refl, sym, ap, _∙_}
 use mathlib.Core.Bool.{Bool, true, false}
-use mathlib.Core.List.{List}
 use lib.ListN.{length}
 use lib.Dec.{eqb}
 use Rattle.areas.specs.Areas.{Areas, receivedCount}
-use Rattle.areas.specs.Layout.{tableWords, undoingFrom, activeAt}
-use Rattle.areas.specs.Ranges.{pagesIn, recordsIn}
+use Rattle.areas.specs.Layout.{tableWords, undoingFrom}
+use Rattle.areas.specs.Ranges.{pagesIn}
 use Rattle.areas.specs.Tables.{at}
 use Rattle.acceptance.specs.Lengths.{Sized}
 use Rattle.book.specs.Books.{Book}

@@ -1,7 +1,7 @@
 -- Whatever part of a going back is stable, reopening undoes the whole transaction. Assumes nothing.
-use Prim.Native.Nat.{ℕ, _-_, _≤_}
-use mathlib.Core.Path.{_≡_, refl, sym, ap, _∙_}
-use mathlib.Core.Bool.{Bool, true, false, not, _&&_, _||_}
+use Prim.Native.Nat.{ℕ, _-_}
+use mathlib.Core.Path.{_≡_, refl, sym, _∙_}
+use mathlib.Core.Bool.{Bool, true, false, not, _&&_}
 use mathlib.Core.List.{List, [], _∷_}
 use mathlib.Core.Logic.{inl, inr}
 use lib.ListN.{length}
@@ -12,7 +12,6 @@ use Rattle.records.specs.Records.{isSweep}
 use Rattle.areas.specs.Areas.{Areas}
 use Rattle.book.specs.Lines.{Line, filtered, hasCommit}
 use Rattle.book.specs.Books.{Book, storing, committedLines, stopped}
-use Rattle.book.specs.Demand.{Point}
 use Rattle.book_laws.specs.Seen.{counted, committedOf}
 use Rattle.book_laws.specs.Keeping.{Each, Runs, LineOk, BookInv, here, later}
 use Rattle.book_laws.proofs.Members.{each-drop}
@@ -21,7 +20,6 @@ use Rattle.book_laws.proofs.Stops.{stableLines, stop-committed}
 use Rattle.demand.proofs.State.{Inv3, open-store, cut-store, reopening-store}
 use Rattle.demand.proofs.Reopen.{recovered-committed}
 use Rattle.guarantees.specs.Cuts.{UndoneWhole, AlwaysUndoneWhole}
-use Rattle.guarantees.proofs.Always.{Sure}
 use Rattle.guarantees.proofs.Refusals.{always}
 
 -- lines that pass one test pass no other

@@ -10,7 +10,7 @@ use lib.ListN.{length, set, length-set}
 use lib.Seq.{getD-set-same, getD-set-other}
 use lib.Dec.{eqb, leb, ltb}
 use borrow.Author.Tests.{eqb-true, eqb-false, ne-eqb, leb-true, le-leb, ltb-true, ltb-false, lt-ltb, le-ltb}
-use Rattle.words.specs.Tests.{if, all, count, by-bool, clash, and-split, all-at, all-same, count-same}
+use Rattle.words.specs.Tests.{if, all, count, by-bool, clash, and-split, all-at, count-same}
 use Rattle.words.specs.Counts.{count-most}
 use Rattle.words.specs.Spans.{over, length-over, over-inside}
 use Rattle.records.specs.Records.{txnCount}

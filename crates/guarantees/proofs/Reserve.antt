@@ -3,18 +3,18 @@ use Prim.Native.Nat.{ℕ, zero, suc, _+_, _≤_, _<_}
 use native.Mathlib.Omega.{arith}
 use native.Mathlib.Decide.{ℕ-discrete}
 use mathlib.Core.Path.{_≡_, refl, sym, ap, _∙_}
-use mathlib.Core.Bool.{Bool, true, false, _||_, _&&_}
+use mathlib.Core.Bool.{Bool, true, false, _&&_}
 use mathlib.Core.List.{List, _∷_}
 use lib.ListN.{length}
 use lib.Dec.{eqb}
-use borrow.Author.Tests.{eqb-true, eqb-false, eq-eqb, ne-eqb}
+use borrow.Author.Tests.{eq-eqb, ne-eqb}
 use Rattle.words.specs.Tests.{if, sum, by-bool, and-false}
 use Rattle.records.specs.declared.Record.{Record}
 use Rattle.records.specs.Records.{txnCount, beginOf}
 use Rattle.records.specs.Effects.{undoing}
 use Rattle.book.specs.Lines.{Line, line, isLeft, left, struckNewest}
 use Rattle.book.specs.Books.{Book}
-use Rattle.book.specs.Feeding.{put, adds, begins, undoes}
+use Rattle.book.specs.Feeding.{put, begins, undoes}
 use Rattle.book_laws.specs.Striking.{undoingLine}
 use Rattle.book_laws.specs.Keeping.{Each, Runs, BookInv}
 use Rattle.book_laws.proofs.Undoing.{struck-not-left, strikes-newest, left-length, newest}

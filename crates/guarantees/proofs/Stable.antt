@@ -16,7 +16,6 @@ use Rattle.page_laws.specs.ViewLaws.{length-copied}
 use Rattle.records.specs.declared.Record.{Record}
 use Rattle.records.specs.Records.{recordAt, recorded, abortedOf, recordWords}
 use Rattle.records.specs.Effects.{undoing}
-use Rattle.areas.specs.declared.Check.{Check}
 use Rattle.areas.specs.Answers.{accepted, Test}
 use Rattle.areas.specs.Areas.{Areas, Out, receivedCount, stableCount, withWork, appended}
 use Rattle.areas.specs.Layout.{reopeningPageAt}

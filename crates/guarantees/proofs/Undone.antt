@@ -4,23 +4,21 @@ use native.Mathlib.Omega.{arith}
 use mathlib.Core.Path.{_≡_, refl, sym, ap, _∙_, subst}
 use mathlib.Core.Bool.{true}
 use mathlib.Core.List.{List}
-use lib.ListN.{length, set, length-set}
+use lib.ListN.{length, length-set}
 use lib.Seq.{getD-set-same}
 use Rattle.words.specs.Tests.{by-bool}
-use Rattle.words.specs.Bits.{bit}
 use Rattle.pages.specs.Geometry.{pageWords}
 use Rattle.pages.specs.Soundness.{areaSound}
 use Rattle.page_laws.specs.SoundFacts.{copied-sound}
-use Rattle.records.specs.declared.Record.{Record}
 use Rattle.records.specs.Records.{txnCount, abortedOf}
 use Rattle.records.specs.Effects.{effect, undoing}
 use Rattle.record_laws.specs.RecordLaws.{recorded-length}
 use Rattle.areas.specs.Areas.{Areas, receivedCount, withWork, withCopies, appended}
-use Rattle.areas.specs.Layout.{markCount, markedAt, activeAt}
+use Rattle.areas.specs.Layout.{markCount}
 use Rattle.areas.specs.Ranges.{recordsIn}
-use Rattle.areas.specs.Tables.{at, canWrite, undoes}
+use Rattle.areas.specs.Tables.{canWrite, undoes}
 use Rattle.areas.specs.Entry.{records}
-use Rattle.calls.specs.Marks.{orderOf, setLast, markSet, sinceMark, takenBack, wentBack, dropped, backTo}
+use Rattle.calls.specs.Marks.{orderOf, markSet, sinceMark, takenBack, wentBack, backTo}
 use Rattle.calls.specs.Transactions.{restored, aborted, endedTables, changesOf}
 use Rattle.acceptance.specs.Entered.{Open}
 use Rattle.acceptance.specs.Lengths.{Sized}
@@ -46,7 +44,7 @@ use Rattle.demand.proofs.Abort as Abort
 use Rattle.demand.proofs.Abort.{words-count}
 use Rattle.demand.proofs.Marks as Marks
 use Rattle.guarantees.proofs.Tables.{Within, ended-within, mark-within, dropped-within, taken-back-within}
-use Rattle.guarantees.proofs.Reserve.{held, share-held, share-runs, held-end, held-undo}
+use Rattle.guarantees.proofs.Reserve.{share-held, share-runs, held-end, held-undo}
 use Rattle.guarantees.proofs.Sound.{effect-sound, firm-idle, firm-undo}
 use Rattle.guarantees.proofs.Fine.{Fine, resized, open-fine, enterable, quiet-fine, added-fine}
 use Rattle.guarantees.proofs.Keeps.{within}

@@ -1,6 +1,6 @@
 -- A state of the collector machine that shows the working tables, and each call: the machine's next state shows the next tables. n is the
 -- number of pages. Assumes nothing.
-use Prim.Native.Nat.{ℕ, _+_, _*_, _<_, _≤_}
+use Prim.Native.Nat.{ℕ, _<_, _≤_}
 use mathlib.Core.Path.{_≡_, sym, _∙_}
 use mathlib.Core.Bool.{true, not}
 use mathlib.Core.List.{List}

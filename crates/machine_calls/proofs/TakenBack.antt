@@ -1,6 +1,6 @@
 -- The working tables where a change is taken back, and where marks are set and dropped, as the collector machine's: n is the number of
 -- pages. Assumes nothing.
-use Prim.Native.Nat.{ℕ, zero, suc, _+_, _*_, _<_, _≤_}
+use Prim.Native.Nat.{ℕ, zero, suc, _+_, _<_, _≤_}
 use native.Mathlib.Omega.{arith}
 use mathlib.Core.Path.{_≡_, refl, sym, ap, _∙_, fun-ext}
 use mathlib.Core.Bool.{Bool, true, false, not, cond}
@@ -10,18 +10,17 @@ use lib.ListN.{length, getD, set}
 use lib.Seq.{getD-set-same, getD-set-other}
 use lib.Dec.{eqb, ltb}
 use Rattle.words.specs.Tests.{by-bool}
-use Rattle.words.specs.Spans.{over}
 use Rattle.pages.specs.Geometry.{pageOf, objectCount}
 use Rattle.records.specs.declared.Record.{Record}
 use Rattle.records.specs.Records.{txnCount, isCreate}
-use Rattle.areas.specs.Layout.{unflushedAt, knownAt, prunedAt, colourAt, tableWords, markCount, markedAt, orderFrom, orderAt, undoingAt, undoingFrom}
+use Rattle.areas.specs.Layout.{unflushedAt, knownAt, prunedAt, tableWords, markCount, markedAt, orderFrom, orderAt, undoingAt, undoingFrom}
 use Rattle.areas.specs.Tables.{gain, lose}
 use Rattle.calls.specs.Marks.{orderOf, movedUp, othersSet, setLast, takenBack, dropped}
 use Rattle.collector.specs.Bits.{_and_, _or_}
 use Rattle.collector.specs.Objects as Objects
 use Rattle.collector.specs.State.{add, remove}
 use Rattle.machine_calls.specs.Tables.{locksOf, tablesOf, passOf}
-use Rattle.machine_calls.proofs.Frames.{Beside, beside-set, beside-gain, beside-lose, beside-over, beside-self, wider, later, tables-ext, page-kept, object-kept, flag-kept, locks-kept, tables-kept, pass-kept}
+use Rattle.machine_calls.proofs.Frames.{Beside, beside-set, beside-gain, beside-lose, beside-over, beside-self, wider, later, tables-ext, page-kept, object-kept, flag-kept, locks-kept, pass-kept}
 use Rattle.machine_calls.proofs.Masks.{page-gain, object-lose}
 
 -- an entry that goes where a create is taken back

@@ -9,16 +9,12 @@ use borrow.Author.Tests.{eqb-true, eq-eqb}
 use Rattle.words.specs.Tests.{by-bool}
 use Rattle.words.specs.Bits.{bit}
 use Rattle.records.specs.declared.Record.{Record}
-use Rattle.records.specs.Records.{setOf, uncreateOf}
 use Rattle.records.specs.Effects.{undoing}
 use Rattle.records.specs.Soundness.{namesObject}
 use Rattle.records.specs.Order.{openNext, inOrder}
 use Rattle.collector.specs.Objects.{Obj, blank, put}
 use Rattle.machine_view.specs.View.{applied, unapplied}
 use Rattle.machine_view.proofs.Effects.{obj-ext}
-use Rattle.recovery_proof.specs.Lines.{acts}
-use Rattle.recovery_proof.specs.Shapes.{shape}
-use Rattle.recovery_proof.proofs.Shapes.{shape-change}
 
 -- a create or a set
 abbrev pub Change : Record → Type 0

@@ -1,12 +1,11 @@
 -- Log records read as lines over objects. This serves the proof of demand 3; its claim never mentions it. Assumes nothing.
 use Prim.Native.Nat.{ℕ, zero, suc}
-use mathlib.Core.Bool.{Bool, true, false, not, _&&_, _||_}
+use mathlib.Core.Bool.{Bool, false, _||_}
 use mathlib.Core.List.{List, [], _∷_}
 use lib.Dec.{eqb}
 use Rattle.words.specs.Tests.{if}
 use Rattle.records.specs.declared.Record.{Record}
-use Rattle.records.specs.Records.{recordAt, isBegin, isChange, isEnd}
-use Rattle.records.specs.Effects.{undoing}
+use Rattle.records.specs.Records.{recordAt}
 use Rattle.records.specs.Soundness.{namesObject}
 use Rattle.book.specs.Pointers.{sweeps, makesOrFrees, writes}
 use Rattle.machine_view.specs.View.{applied, unapplied}

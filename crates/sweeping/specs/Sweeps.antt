@@ -19,10 +19,10 @@ use Rattle.areas.specs.declared.Refusal.{Refusal}
 use Rattle.areas.specs.declared.Refusal.the-variants.{LogFull}
 use Rattle.areas.specs.declared.Check.the-variants.{Accept, Refuse}
 use Rattle.areas.specs.Answers.{need, verdict, need-holds, need-fails, all-passed}
-use Rattle.areas.specs.Areas.{Areas, Out, areas, done, refused, checked-pass, checked-refuse, withWork, appended}
+use Rattle.areas.specs.Areas.{Areas, areas, done, refused, checked-pass, checked-refuse, withWork, appended}
 use Rattle.areas.specs.Layout.{passPageAt, readersAt, writersAt, createdAt, colourAt}
 use Rattle.areas.specs.Tables.{at}
-use Rattle.calls.specs.Room.{sweepRoom, roomBeyond}
+use Rattle.calls.specs.Room.{sweepRoom}
 use Rattle.calls.specs.Pass.{locked, unmarked, sweepMap, freedMap, advanced, sweepTests, sweptPage, swept}
 use Rattle.acceptance.specs.Pass.{sweep-facts}
 use Rattle.store_ops.specs.Logs.{roomIn, room-in}
