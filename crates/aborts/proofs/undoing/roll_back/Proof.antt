@@ -27,13 +27,13 @@ record-at-requires : tie.Need-record-at-requires Inv-loop μ-loop
 record-at-requires c κs = rolling-inside _ _ _ _ _ _ _ _ _ _ _ _ (c .before .before .before .before .before .before .before .before .before .before .before .pre) (c .before .before .loop .inv) (c .before .loop-test .taken) .0
 
 undoing-at-requires : tie.Need-undoing-at-requires Inv-loop μ-loop
-undoing-at-requires c κs = let p = rolling-inside _ _ _ _ _ _ _ _ _ _ _ _ (c .before .before .before .before .before .before .before .before .before .before .before .before .pre) (c .before .before .before .loop .inv) (c .before .before .loop-test .taken) in (c .before .before .before .before .before .before .before .before .before .before .before .before .pre .words .0, p .2)
+undoing-at-requires c κs = let p = rolling-inside _ _ _ _ _ _ _ _ _ _ _ _ (c .before .before .before .before .before .before .before .before .before .before .before .before .pre) (c .before .before .before .loop .inv) (c .before .before .loop-test .taken) in let q = c .before .before .before .before .before .before .before .before .before .before .before .before .pre .words in (omega arith, omega arith)
 
 mul-turn-at : tie.Need-mul-turn-at Inv-loop μ-loop
 mul-turn-at c = let p = rolling-inside _ _ _ _ _ _ _ _ _ _ _ _ (c .before .before .before .before .before .before .before .before .before .before .before .before .before .pre) (c .before .before .before .before .loop .inv) (c .before .before .before .loop-test .taken) in omega arith
 
 shared-slice-read-turn-at : tie.Need-shared-slice-read-turn-at Inv-loop μ-loop
-shared-slice-read-turn-at c = rw (c .before .undoing-at .ensures) (rolling-inside _ _ _ _ _ _ _ _ _ _ _ _ (c .before .before .before .before .before .before .before .before .before .before .before .before .before .before .pre) (c .before .before .before .before .before .loop .inv) (c .before .before .before .before .loop-test .taken) .1)
+shared-slice-read-turn-at c = let p = rolling-inside _ _ _ _ _ _ _ _ _ _ _ _ (c .before .before .before .before .before .before .before .before .before .before .before .before .before .before .pre) (c .before .before .before .before .before .loop .inv) (c .before .before .before .before .loop-test .taken) in omega arith
 
 turn-at-requires : tie.Need-turn-at-requires Inv-loop μ-loop
 turn-at-requires c κs = rolling-inside _ _ _ _ _ _ _ _ _ _ _ _ (c .before .before .before .before .before .before .before .before .before .before .before .before .before .before .pre) (c .before .before .before .before .before .loop .inv) (c .before .before .before .before .loop-test .taken) .3
