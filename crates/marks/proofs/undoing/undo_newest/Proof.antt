@@ -1,6 +1,7 @@
 use borrow.Author.Needs.{needs}
 use native.Mathlib.Omega.{arith}
-use Rattle.marks.specs.Going.{Going, change-undone, going-start, going-some, going-inside, going-past, going-ready, going-left, going-end}
+use Rattle.marks.specs.Going.{Going, going-start, going-some, going-inside, going-past, going-ready, going-left, going-end}
+use Rattle.marks.specs.Taking.{change-undone}
 use mathlib.Core.Path.{_∙_, sym}
 use Rattle.marks.proofs.undoing.undo_newest.Statement.{statement}
 use Rattle.marks.proofs.undoing.undo_newest.Tie as tie
