@@ -1,10 +1,10 @@
 -- Refusals 3 and 4 of a mark, and 3, 4, 16 and 11 of going back, of the lists that they read; what the code that makes the change needs.
 -- n is the number of pages. Assumes nothing.
-use Prim.Native.Nat.{ℕ, _+_, _-_, _/_, _<_, _≤_}
+use Prim.Native.Nat.{ℕ, _-_, _<_, _≤_}
 use mathlib.Core.Path.{_≡_, sym, ap, _∙_}
 use mathlib.Core.Bool.{Bool, true, false, not, _&&_}
 use mathlib.Core.List.{List, [], _∷_}
-use lib.ListN.{length, getD, take}
+use lib.ListN.{length}
 use lib.Seq.{length-take-le}
 use lib.Dec.{eqb}
 use native.Mathlib.Omega.{arith}
@@ -24,7 +24,7 @@ use Rattle.calls.specs.Transactions.{changesOf}
 use Rattle.calls.specs.Marks.{isMark, markTests, sinceMark, backTests}
 use Rattle.acceptance.specs.Entered.{Open}
 use Rattle.acceptance.specs.Marks.{mark-facts, back-facts}
-use Rattle.store_ops.specs.Logs.{Kept, open-kept, leftIn}
+use Rattle.store_ops.specs.Logs.{Kept, open-kept, open-undoing, leftIn}
 use Rattle.marks.specs.Going.{Goable}
 
 -- the changes left since mark m, whose number stands at word i
@@ -104,12 +104,9 @@ module _ (s : Areas) (n t m : ℕ) where
       back-full b = need-fails _ _ _ _ (rw e at b) ∙ need-holds _ _ _ _ marked ∙ need-holds _ _ _ _ active ∙ need-holds _ _ _ _ range
 
 -- what the code that makes the change needs of a call whose tests passed
-pub noted-records : (s : Areas) (n : ℕ) → Open s n → HasUndoing (s .work) n (receivedCount s)
-noted-records s n o = let z = o .sized in let r = o .ranged in (omega arith, omega arith)
-
 module _ (s : Areas) (n t m : ℕ) (o : Open s n) where
   pub mark-ready : verdict (markTests s t m) ≡ Accept → Kept (s .log) (s .counts) × (HasUndoing (s .work) n (receivedCount s) × (t < txnCount) × (m < markCount))
-  mark-ready h = let f = mark-facts s t m h in (open-kept s n o, (noted-records s n o, f .txn, f .mark))
+  mark-ready h = let f = mark-facts s t m h in (open-kept s n o, (open-undoing s n o, f .txn, f .mark))
 
   pub back-ready : verdict (backTests s n t m) ≡ Accept → Goable (s .received) (s .log) (s .counts) (s .work) n t (length (sinceMark s n t m)) × (m < markCount)
   back-ready h = let f = back-facts s n t m h in let z = o .sized in (

@@ -2,30 +2,30 @@
 -- in the tables what it appended. n is the number of pages. Assumes nothing.
 use Prim.Native.Nat.{ℕ, zero, suc, _+_, _*_, _-_, _/_, _<_, _≤_}
 use mathlib.Core.Path.{_≡_, refl, sym, ap, _∙_}
-use mathlib.Core.Bool.{true, false, not, _||_}
+use mathlib.Core.Bool.{true, not, _||_}
 use mathlib.Core.List.{List, [], _∷_}
-use lib.ListN.{length, getD, set, take, length-set}
-use lib.Seq.{getD-set-same, getD-set-other}
+use lib.ListN.{length, getD, set, take}
+use lib.Seq.{getD-set-same}
 use lib.Dec.{eqb}
 use native.Mathlib.Omega.{arith}
-use Rattle.words.specs.Tests.{if, by-bool, and-l, or-l}
-use Rattle.pages.specs.Geometry.{pageWords, objectCount, pageOf}
+use Rattle.words.specs.Tests.{and-l, or-l}
+use Rattle.pages.specs.Geometry.{pageWords, objectCount}
 use Rattle.records.specs.declared.Record.{Record}
-use Rattle.records.specs.Records.{recordWords, maxRecords, txnCount, recordAt, recorded, isCreate}
-use Rattle.records.specs.Effects.{effect, undoing}
+use Rattle.records.specs.Records.{recordWords, maxRecords, txnCount, recordAt, recorded}
+use Rattle.records.specs.Effects.{undoing}
 use Rattle.records.specs.Soundness.{recordSound, recordsSound}
-use Rattle.records.specs.Changes.{changesLeft}
 use Rattle.record_laws.specs.RecordLaws.{Agree, recorded-agrees, records-sound-at, sound-record, named-object}
 use Rattle.record_laws.specs.SoundRecords.{undoing-sound}
 use Rattle.record_ops.specs.declared.Turn.the-variants.{Left, Past}
 use Rattle.record_ops.specs.InRange.{sound-in-range}
 use Rattle.record_ops.specs.Turns.{turnAt, below, below-all, below-some, below-left, below-past, left-tells, past-tells}
-use Rattle.areas.specs.Areas.{Areas, countWords, areas, withWork, appended}
-use Rattle.areas.specs.Layout.{HasUndoing, unflushedAt, knownAt, undoingAt}
+use Rattle.areas.specs.Areas.{Areas, countWords, areas, appended}
+use Rattle.areas.specs.Layout.{HasUndoing, undoingAt}
 use Rattle.areas.specs.Ranges.{recordsIn}
-use Rattle.areas.specs.Tables.{at, undoes, gain, lose}
+use Rattle.areas.specs.Tables.{at, undoes}
 use Rattle.calls.specs.Marks.{takenBack, wentBack}
-use Rattle.store_ops.specs.Logs.{Kept, Fits}
+use Rattle.store_ops.specs.Logs.{Kept, Fits, leftIn}
+use Rattle.marks.specs.Taking.{backBy, taken-before}
 
 -- record r is a change of t that can be undone, of the pages a, the log g, the counts k and the tables w
 pub record Takeable (a g k w : List ℕ) (n t : ℕ) (r : Record) : Type 0 where
@@ -41,61 +41,19 @@ pub record Goable (a g k w : List ℕ) (n t m : ℕ) : Type 0 where
   pub pages-len : length a ≡ pageWords * n
   pub tables : HasUndoing w n (recordsIn (length g))
   pub txn : t < txnCount
-  pub enough : m ≤ length (changesLeft (undoes w n) g (getD k 0 0) t)
+  pub enough : m ≤ length (leftIn g k w n t)
   pub room : getD k 0 0 + m ≤ recordsIn (length g)
   pub top : recordsIn (length g) ≤ maxRecords
 
--- the areas once record r is undone
-abbrev pub backBy : Record → ℕ → ℕ → Areas → Areas
-backBy r n t s = withWork (appended s (undoing r)) (takenBack (s .work) n t (getD (s .counts) 0 0) r)
-
--- the tables once a change is undone: as many words, and the words of the records before it
-module _ (w : List ℕ) (n t c : ℕ) (r : Record) where
-  -- the tables where it is no create
-  abbrev notedBack : List ℕ
-  notedBack = set (gain w (unflushedAt n (pageOf (r .object))) t) (undoingAt n c) 1
-
-  length-noted : length notedBack ≡ length w
-  length-noted = length-set (gain w (unflushedAt n (pageOf (r .object))) t) (undoingAt n c) 1 ∙ length-set w (unflushedAt n (pageOf (r .object))) _
-
-  pub length-taken : length (takenBack w n t c r) ≡ length w
-  unfolding takenBack
-  length-taken = by-bool (isCreate r) (λ e. rw e (length-set notedBack (knownAt n (r .object)) _ ∙ length-noted)) (λ e. rw e length-noted)
-
-  module _ (ob : (1 ≤ r .object) × (r .object ≤ objectCount n)) (j : ℕ) (h : j < c) where
-    noted-before : at notedBack (undoingAt n j) ≡ at w (undoingAt n j)
-    noted-before =
-        getD-set-other (gain w (unflushedAt n (pageOf (r .object))) t) (undoingAt n c) (undoingAt n j) 1 0 (λ z. omega arith)
-        ∙ getD-set-other w (unflushedAt n (pageOf (r .object))) (undoingAt n j) _ 0 (λ z. omega arith)
-
-    pub taken-before : at (takenBack w n t c r) (undoingAt n j) ≡ at w (undoingAt n j)
-    unfolding takenBack
-    taken-before = by-bool (isCreate r)
-        (λ e. rw e (getD-set-other notedBack (knownAt n (r .object)) (undoingAt n j) _ 0 (λ z. omega arith) ∙ noted-before))
-        (λ e. rw e noted-before)
-
--- the tables as the code changes them: the words at b, d and f are those of the page, of the record and of the object
-module _ (w : List ℕ) (n t c : ℕ) (r : Record) {b d : ℕ} (eb : b ≡ unflushedAt n (pageOf (r .object))) (ed : d ≡ undoingAt n c) {v : List ℕ} (ev : v ≡ gain w b t) where
-  pub noted-create : {f : ℕ} {x : List ℕ} → f ≡ knownAt n (r .object) → x ≡ lose (set v d 1) f t → isCreate r ≡ true → x ≡ takenBack w n t c r
-  unfolding takenBack
-  noted-create ef ex y = ex ∙ rw (y, ev, eb, ed, ef)
-
-  pub noted-set : isCreate r ≡ false → set v d 1 ≡ takenBack w n t c r
-  unfolding takenBack
-  noted-set y = rw (y, ev, eb, ed)
-
--- u: the record that undoes r
-pub change-undone : (r u : Record) (n t : ℕ) (a g k w : List ℕ) (x : ℕ) (a′ g′ k′ w′ : List ℕ) → u ≡ undoing r → w′ ≡ takenBack w n t (getD k 0 0) r →
-    (x ≡ getD k 0 0 + 1) × (a′ ≡ effect a u) × (g′ ≡ recorded g (getD k 0 0) u) × (k′ ≡ set k 0 (getD k 0 0 + 1)) →
-    areas [] [] a′ g′ k′ w′ ≡ backBy r n t (areas [] [] a g k w)
-unfolding appended
-change-undone r u n t a g k w x a′ g′ k′ w′ e h z = rw (h, z .1, z .2, z .3, e)
+-- the changes that are left from record i down, of the log g, the counts k and the tables w: p more are undone by what stands above
+abbrev rest : List ℕ → List ℕ → List ℕ → ℕ → ℕ → ℕ → ℕ → List ℕ
+rest g k w n t i p = below (undoes w n) g (getD k 0 0) t i p
 
 -- the walk at record i with some changes left to undo, and p more that are undone already: it started with pages a₀, log g₀, counts k₀
 -- and tables w₀ to undo m changes, and is at a, g, k and w
 pub record Going (a₀ g₀ k₀ w₀ : List ℕ) (n t m : ℕ) (a g k w : List ℕ) (i left p : ℕ) : Type 0 where
   pub upto : p + i ≤ getD k₀ 0 0
-  pub enough : left ≤ length (below (undoes w₀ n) g₀ (getD k₀ 0 0) t i p)
+  pub enough : left ≤ length (rest g₀ k₀ w₀ n t i p)
   pub pages-len : length a ≡ length a₀
   pub log-len : length g ≡ length g₀
   pub counts-len : length k ≡ length k₀
@@ -104,8 +62,8 @@ pub record Going (a₀ g₀ k₀ w₀ : List ℕ) (n t m : ℕ) (a g k w : List 
   pub count : getD k 0 0 + left ≡ getD k₀ 0 0 + m
   pub before : Agree g g₀ (getD k₀ 0 0)
   pub words : (j : ℕ) → j < getD k₀ 0 0 → at w (undoingAt n j) ≡ at w₀ (undoingAt n j)
-  pub goes : wentBack g₀ (take left (below (undoes w₀ n) g₀ (getD k₀ 0 0) t i p)) (areas [] [] a g k w) n t
-      ≡ wentBack g₀ (take m (changesLeft (undoes w₀ n) g₀ (getD k₀ 0 0) t)) (areas [] [] a₀ g₀ k₀ w₀) n t
+  pub goes : wentBack g₀ (take left (rest g₀ k₀ w₀ n t i p)) (areas [] [] a g k w) n t
+      ≡ wentBack g₀ (take m (leftIn g₀ k₀ w₀ n t)) (areas [] [] a₀ g₀ k₀ w₀) n t
 
 -- one change undone
 record Taken (g k w g′ k′ w′ : List ℕ) (n c : ℕ) : Type 0 where
@@ -154,7 +112,7 @@ module _ (a₀ g₀ k₀ w₀ : List ℕ) (n t m : ℕ) where
       }
 
   module _ (a g k w : List ℕ) (i left p : ℕ) (u : Goable a₀ g₀ k₀ w₀ n t m) (s : Going a₀ g₀ k₀ w₀ n t m a g k w i left p) (some : 0 < left) where
-    down : 0 < length (below (undoes w₀ n) g₀ (getD k₀ 0 0) t i p)
+    down : 0 < length (rest g₀ k₀ w₀ n t i p)
     down = let e = s .enough in omega arith
 
     pub going-some : 0 < i
@@ -181,15 +139,15 @@ module _ (a₀ g₀ k₀ w₀ : List ℕ) (n t m : ℕ) where
           ap (λ (x : Record). turnAt (undoes w₀ n (i - 1)) x t p) (sym same)
           ∙ ap (λ (x : ℕ). turnAt (not (eqb x 0)) r t p) (sym (ap (at w) eb ∙ s .words (i - 1) lower))
 
-      from : 0 < length (below (undoes w₀ n) g₀ (getD k₀ 0 0) t ((i - 1) + 1) p)
+      from : 0 < length (rest g₀ k₀ w₀ n t ((i - 1) + 1) p)
       from = rw place at down
 
       -- no change that is left
       pub going-past : (q : ℕ) → turnAt (not (eqb (at w b) 0)) r t p ≡ Past q → Going a₀ g₀ k₀ w₀ n t m a g k w (i - 1) left q
       going-past q e =
-          let d : below (undoes w₀ n) g₀ (getD k₀ 0 0) t i p ≡ below (undoes w₀ n) g₀ (getD k₀ 0 0) t (i - 1) q =
-          ap (λ (x : ℕ). below (undoes w₀ n) g₀ (getD k₀ 0 0) t x p) place ∙ below-past (undoes w₀ n) g₀ (getD k₀ 0 0) t (i - 1) p from q (turn-here ∙ e) in
-          let o = place in
+          let d : rest g₀ k₀ w₀ n t i p ≡ rest g₀ k₀ w₀ n t (i - 1) q =
+          ap (λ (x : ℕ). rest g₀ k₀ w₀ n t x p) place ∙ below-past (undoes w₀ n) g₀ (getD k₀ 0 0) t (i - 1) p from q (turn-here ∙ e) in
+          let pl = place in
           let v = past-tells (not (eqb (at w b) 0)) r t p q e in
           let h = s .upto in
           record {
@@ -242,9 +200,9 @@ module _ (a₀ g₀ k₀ w₀ : List ℕ) (n t m : ℕ) where
             areas [] [] a′ g′ k′ w′ ≡ backBy r n t (areas [] [] a g k w) → Going a₀ g₀ k₀ w₀ n t m a′ g′ k′ w′ (i - 1) (left - 1) p
         going-left a′ g′ k′ w′ la lg lk lw f =
             let z = taken r n t a g k w a′ g′ k′ w′ (getD k₀ 0 0) (s .counts-len ∙ u .kept .two) (s .since) (going-ready .object) f in
-            let d : below (undoes w₀ n) g₀ (getD k₀ 0 0) t i p ≡ (i - 1) ∷ below (undoes w₀ n) g₀ (getD k₀ 0 0) t (i - 1) p =
-            ap (λ (x : ℕ). below (undoes w₀ n) g₀ (getD k₀ 0 0) t x p) place ∙ below-left (undoes w₀ n) g₀ (getD k₀ 0 0) t (i - 1) p from (turn-here ∙ e) in
-            let z0 = place in
+            let d : rest g₀ k₀ w₀ n t i p ≡ (i - 1) ∷ rest g₀ k₀ w₀ n t (i - 1) p =
+            ap (λ (x : ℕ). rest g₀ k₀ w₀ n t x p) place ∙ below-left (undoes w₀ n) g₀ (getD k₀ 0 0) t (i - 1) p from (turn-here ∙ e) in
+            let pl = place in
             let h = s .upto in
             let o = s .enough in
             let q = ap length d in
@@ -262,8 +220,8 @@ module _ (a₀ g₀ k₀ w₀ : List ℕ) (n t m : ℕ) where
               count = omega arith;
               before = λ x b. z .kept x b ∙ s .before x b;
               words = λ x b. z .noted x b ∙ s .words x b;
-              goes = ap (λ (q : Areas). wentBack g₀ (take (left - 1) (below (undoes w₀ n) g₀ (getD k₀ 0 0) t (i - 1) p)) q n t) (f ∙ ap (λ (x : Record). backBy x n t (areas [] [] a g k w)) same)
-                  ∙ went-next g₀ (i - 1) (below (undoes w₀ n) g₀ (getD k₀ 0 0) t (i - 1) p) left (areas [] [] a g k w) n t some
+              goes = ap (λ (q : Areas). wentBack g₀ (take (left - 1) (rest g₀ k₀ w₀ n t (i - 1) p)) q n t) (f ∙ ap (λ (x : Record). backBy x n t (areas [] [] a g k w)) same)
+                  ∙ went-next g₀ (i - 1) (rest g₀ k₀ w₀ n t (i - 1) p) left (areas [] [] a g k w) n t some
                   ∙ ap (λ (l : List ℕ). wentBack g₀ (take left l) (areas [] [] a g k w) n t) (sym d)
                   ∙ s .goes;
             }
@@ -273,6 +231,6 @@ module _ (a₀ g₀ k₀ w₀ : List ℕ) (n t m : ℕ) where
   none l s = refl
 
   pub going-end : (a g k w : List ℕ) (i left p : ℕ) → Going a₀ g₀ k₀ w₀ n t m a g k w i left p → left ≡ 0 →
-      areas [] [] a g k w ≡ wentBack g₀ (take m (changesLeft (undoes w₀ n) g₀ (getD k₀ 0 0) t)) (areas [] [] a₀ g₀ k₀ w₀) n t
+      areas [] [] a g k w ≡ wentBack g₀ (take m (leftIn g₀ k₀ w₀ n t)) (areas [] [] a₀ g₀ k₀ w₀) n t
   going-end a g k w i left p s e =
-      sym (none (below (undoes w₀ n) g₀ (getD k₀ 0 0) t i p) (areas [] [] a g k w)) ∙ rw e at (s .goes)
+      sym (none (rest g₀ k₀ w₀ n t i p) (areas [] [] a g k w)) ∙ rw e at (s .goes)

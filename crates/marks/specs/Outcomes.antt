@@ -7,10 +7,9 @@ use lib.Seq.{length-take-le}
 use native.Mathlib.Omega.{arith}
 use Rattle.records.specs.Records.{recordAt, recorded}
 use Rattle.records.specs.Effects.{effect, undoing}
-use Rattle.records.specs.Changes.{changesLeft}
 use Rattle.areas.specs.Areas.{Areas, areas, withWork, appended}
 use Rattle.areas.specs.Layout.{markCount, markedAt, orderAt}
-use Rattle.areas.specs.Tables.{at, undoes}
+use Rattle.areas.specs.Tables.{at}
 use Rattle.calls.specs.Marks.{orderOf, setLast, markSet, sinceMark, takenBack, wentBack, dropped, backTo}
 use Rattle.store_ops.specs.Logs.{leftIn}
 
@@ -38,12 +37,9 @@ droppedIn s c n t m b = areas s c (b .received) (b .log) (b .counts) (dropped (b
 
 -- x: how many changes since the mark the code found; i: the word of the mark's place
 pub back-out : (s c a g k w : List ℕ) (n t m x : ℕ) (a′ g′ k′ v : List ℕ) (i : ℕ) (w′ : List ℕ) → x ≡ length (sinceMark (areas [] [] [] g k w) n t m) →
-    areas [] [] a′ g′ k′ v ≡ wentBack g (take x (changesLeft (undoes w n) g (getD k 0 0) t)) (areas [] [] a g k w) n t → i ≡ orderAt n t m → w′ ≡ dropped v n t (at v i) markCount →
+    areas [] [] a′ g′ k′ v ≡ wentBack g (take x (leftIn g k w n t)) (areas [] [] a g k w) n t → i ≡ orderAt n t m → w′ ≡ dropped v n t (at v i) markCount →
     areas s c a′ g′ k′ w′ ≡ backTo (areas s c a g k w) n t m
 unfolding backTo
 back-out s c a g k w n t m x a′ g′ k′ v i w′ e h p d =
-    rw (d, p) (ap (droppedIn s c n t m) (h ∙ ap (λ (l : List ℕ). wentBack g l (areas [] [] a g k w) n t) (ap (λ (y : ℕ). take y l) e ∙ take-counted l (at w (markedAt n t m)))))
+    rw (d, p) (ap (droppedIn s c n t m) (h ∙ ap (λ (l : List ℕ). wentBack g l (areas [] [] a g k w) n t) (ap (λ (y : ℕ). take y (leftIn g k w n t)) e ∙ take-counted (leftIn g k w n t) (at w (markedAt n t m)))))
     ∙ ap (λ (z : Areas). withWork z (dropped (z .work) n t (orderOf (z .work) n t m) markCount)) (sym (went-other g (sinceMark (areas [] [] [] g k w) n t m) s c a g k w n t))
-  where
-    l : List ℕ
-    l = changesLeft (undoes w n) g (getD k 0 0) t

@@ -2,13 +2,13 @@
 -- of pages. Assumes nothing.
 use Prim.Native.Nat.{ℕ, _+_, _≤_}
 use mathlib.Core.Path.{_≡_, sym, ap, _∙_}
-use mathlib.Core.Bool.{Bool, true, false, not, _&&_}
+use mathlib.Core.Bool.{not, _&&_}
 use mathlib.Core.List.{List}
-use lib.ListN.{getD, set}
+use lib.ListN.{set}
 use lib.Dec.{eqb, ltb}
 use native.Mathlib.Numerals.{add-one}
 use native.Mathlib.Omega.{arith}
-use Rattle.words.specs.Tests.{if, count, count-same, if-t, if-f}
+use Rattle.words.specs.Tests.{if, count, count-same}
 use Rattle.words.specs.Counts.{count-most}
 use Rattle.words.specs.Spans.{over, over-outside}
 use Rattle.areas.specs.Layout.{markCount, markedAt, orderAt}

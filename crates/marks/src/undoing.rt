@@ -1,14 +1,13 @@
 ghost use mathlib.Core.Path.{_≡_};
 ghost use mathlib.Core.List.{[]};
 ghost use Prim.Native.Nat.{_+_, _<_, _≤_};
-ghost use lib.ListN.{getD, take};
+ghost use lib.ListN.{take};
 ghost use Rattle.pages.specs.Geometry.{objectCount};
 ghost use Rattle.records.specs.Records.{maxRecords};
-ghost use Rattle.records.specs.Changes.{changesLeft};
 ghost use Rattle.areas.specs.Areas.{areas};
 ghost use Rattle.areas.specs.Layout.{HasUndoing};
-ghost use Rattle.areas.specs.Tables.{undoes};
 ghost use Rattle.calls.specs.Marks.{takenBack, wentBack};
+ghost use Rattle.store_ops.specs.Logs.{leftIn};
 ghost use Rattle.marks.specs.Going.{Goable};
 use areas::layout;
 use pages::SLOTS;
@@ -39,7 +38,7 @@ pub fn undo_newest(
     k: u32,
 )
     requires { ⌜ Goable (now received) (now log) (now counts) (now work) n t k ⌝ }
-    ensures { λ _. ⌜ areas [] [] (now (received .exit)) (now (log .exit)) (now (counts .exit)) (now (work .exit)) ≡ wentBack (now (log .entry)) (take k (changesLeft (undoes (now (work .entry)) n) (now (log .entry)) (getD (now (counts .entry)) 0 0) t)) (areas [] [] (now (received .entry)) (now (log .entry)) (now (counts .entry)) (now (work .entry))) n t ⌝ }
+    ensures { λ _. ⌜ areas [] [] (now (received .exit)) (now (log .exit)) (now (counts .exit)) (now (work .exit)) ≡ wentBack (now (log .entry)) (take k (leftIn (now (log .entry)) (now (counts .entry)) (now (work .entry)) n t)) (areas [] [] (now (received .entry)) (now (log .entry)) (now (counts .entry)) (now (work .entry))) n t ⌝ }
 {
     let mut i = counts[layout::RECEIVED] as usize;
     let mut left = k;

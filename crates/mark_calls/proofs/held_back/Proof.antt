@@ -5,8 +5,8 @@ use Rattle.areas.specs.Entry.{called-closed, called-refused, called-passed}
 use borrow.Author.Tests.{not-true, not-false, eqb-true}
 use mathlib.Core.Path.{sym, ap, _∙_}
 use Rattle.calls.specs.Marks.{callBack}
-use Rattle.store_ops.specs.Logs.{open-kept}
-use Rattle.marks.specs.Checks.{noted-records, back-as, back-ready}
+use Rattle.store_ops.specs.Logs.{open-kept, open-undoing}
+use Rattle.marks.specs.Checks.{back-as, back-ready}
 use borrow.Author.Needs.{needs}
 use Rattle.mark_calls.proofs.held_back.Statement.{statement}
 use Rattle.mark_calls.proofs.held_back.Tie as tie
@@ -19,7 +19,7 @@ unfolding callBack
 returns c = called-closed _ _ _ _ _ (c .before .before .before .before .before .before .before .before .before .pre) (sym (c .before .is-open .ensures) ∙ not-true _ (c .if1 .taken))
 
 back-check-requires : tie.Need-back-check-requires
-back-check-requires c κs = let o = open-formed _ _ (c .before .before .before .before .before .before .before .before .before .before .before .before .pre) (eqb-true _ _ (sym (c .before .before .before .before .is-open .ensures) ∙ not-false _ (c .before .before .before .if1 .left))) in (open-kept _ _ o, noted-records _ _ o)
+back-check-requires c κs = let o = open-formed _ _ (c .before .before .before .before .before .before .before .before .before .before .before .before .pre) (eqb-true _ _ (sym (c .before .before .before .before .is-open .ensures) ∙ not-false _ (c .before .before .before .if1 .left))) in (open-kept _ _ o, open-undoing _ _ o)
 
 back-apply-requires : tie.Need-back-apply-requires
 back-apply-requires c κs = back-ready _ _ _ _ (open-formed _ _ (c .before .before .before .before .before .before .before .before .before .before .before .before .before .before .before .before .before .before .before .pre) (eqb-true _ _ (sym (c .before .before .before .before .before .before .before .before .before .before .before .is-open .ensures) ∙ not-false _ (c .before .before .before .before .before .before .before .before .before .before .if1 .left)))) (sym (back-as _ _ _ _ _ _ _ _ _ (c .before .before .before .before .before .before .back-check .ensures)) ∙ c .before .before .before .before .enum-told .given .1)

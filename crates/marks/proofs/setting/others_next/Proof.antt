@@ -1,5 +1,4 @@
 use native.Mathlib.Omega.{arith}
-use Rattle.words.specs.Tests.{if-t, if-f}
 use borrow.Author.Needs.{needs}
 use Rattle.marks.proofs.setting.others_next.Statement.{statement}
 use Rattle.marks.proofs.setting.others_next.Tie as tie

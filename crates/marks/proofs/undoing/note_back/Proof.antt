@@ -1,5 +1,5 @@
 use native.Mathlib.Omega.{arith}
-use Rattle.marks.specs.Going.{noted-create, noted-set}
+use Rattle.marks.specs.Taking.{noted-create, noted-set}
 use lib.ListN.{length-set}
 use mathlib.Core.Path.{_∙_}
 use borrow.Author.Tests.{eq-eqb, ne-eqb}

@@ -1,6 +1,7 @@
 use borrow.Author.Needs.{needs}
 use native.Mathlib.Omega.{arith}
-use Rattle.marks.specs.Going.{Going, change-undone, going-start, going-some, going-inside, going-past, going-ready, going-left, going-end}
+use Rattle.marks.specs.Going.{Going, going-start, going-some, going-inside, going-past, going-ready, going-left, going-end}
+use Rattle.marks.specs.Taking.{change-undone}
 use mathlib.Core.Path.{_∙_, sym}
 use Rattle.marks.proofs.undoing.undo_newest.Statement.{statement}
 use Rattle.marks.proofs.undoing.undo_newest.Tie as tie
@@ -38,7 +39,7 @@ slice-read-turn-at : tie.Need-slice-read-turn-at Inv-loop μ-loop
 slice-read-turn-at c = let l = going-inside _ _ _ _ _ _ _ _ _ _ _ _ _ _ (c .before .before .before .before .before .before .before .before .before .before .before .pre) (c .before .before .before .before .before .loop .inv) (c .before .before .before .before .loop-test .taken) in omega arith
 
 turn-at-requires : tie.Need-turn-at-requires Inv-loop μ-loop
-turn-at-requires c κs = going-inside _ _ _ _ _ _ _ _ _ _ _ _ _ _ (c .before .before .before .before .before .before .before .before .before .before .before .pre) (c .before .before .before .before .before .loop .inv) (c .before .before .before .before .loop-test .taken) .3
+turn-at-requires c κs = let l = going-inside _ _ _ _ _ _ _ _ _ _ _ _ _ _ (c .before .before .before .before .before .before .before .before .before .before .before .pre) (c .before .before .before .before .before .loop .inv) (c .before .before .before .before .loop-test .taken) in omega arith
 
 loop-less : tie.Need-loop-less Inv-loop μ-loop
 loop-less c = let h = going-some _ _ _ _ _ _ _ _ _ _ _ _ _ _ (c .before .before .before .before .before .before .before .before .before .before .before .before .before .before .before .pre) (c .before .before .before .before .before .before .before .before .before .loop .inv) (c .before .before .before .before .before .before .before .before .loop-test .taken) in omega arith
