@@ -42,7 +42,7 @@ appliedAll (r ∷ rs) x v = applied r x (appliedAll rs x v)
 abbrev pub leftOf : ℕ → List Line → List Record
 leftOf i ls = entries (filtered (isLeft i) ls)
 
-still : (r : Record) (x : ℕ) (v : Obj) → touches r x ≡ false → applied r x v ≡ v
+pub still : (r : Record) (x : ℕ) (v : Obj) → touches r x ≡ false → applied r x v ≡ v
 still r x v e = ap (λ (s : Seen). s .object) (untouched 0 r x (record { object = v; tag = bornAt 0 }) e)
 
 pub left-past : (i : ℕ) (l : Line) (ls : List Line) → isLeft i l ≡ false → leftOf i (l ∷ ls) ≡ leftOf i ls

@@ -47,11 +47,11 @@ use Rattle.page_laws.specs.Places.{object-range}
 use Rattle.pages.specs.Geometry.{objectCount, isObject}
 
 -- a pass record written leaves the words of a reopening
-pass-beside : (w : List ℕ) (phase page steps : ℕ) → Beside 2 5 w (withPass w phase page steps)
+pub pass-beside : (w : List ℕ) (phase page steps : ℕ) → Beside 2 5 w (withPass w phase page steps)
 pass-beside w phase page steps = later (wider (beside-set w 2 phase) (omega arith) (omega arith))
     (later (wider (beside-set _ 3 page) (omega arith) (omega arith)) (wider (beside-set _ 4 steps) (omega arith) (omega arith)))
 
-start-beside : (w : List ℕ) (n : ℕ) → Beside 2 (tableWords n) w (passStarted w n)
+pub start-beside : (w : List ℕ) (n : ℕ) → Beside 2 (tableWords n) w (passStarted w n)
 unfolding passStarted unflagged
 start-beside w n = later (wider (beside-over _ w _ (objectCount n)) (omega arith) (omega arith))
     (later (wider (beside-over _ _ _ (objectCount n)) (omega arith) (omega arith))
@@ -102,6 +102,10 @@ module _ (n : ℕ) (some : 1 ≤ n) (s : Areas) (b : Book) (i : OpenInv n s b) (
       pub scan-same : locksOf (scanning s n .after .work) n ≡ locksOf (s .work) n
       scan-same = scan-locks n (s .copies) (s .work) grey refs (h .sized .tables .1) ok some room
 
+      pub scan-behind : Behind n (s .work) (scanning s n .after .work)
+      scan-behind j l = pass-beside (scanned (s .copies) (s .work) n grey) 1 (at (s .work) passPageAt) (stepsNext (s .work) n) .above j (omega arith)
+          ∙ scanned-other n (s .copies) (s .work) grey refs (h .sized .tables .1) ok j (behind-colours n j l)
+
       pub scan-kept : OpenInv n (scanning s n .after) b
       scan-kept =
           let len = h .sized .tables .1 in
@@ -111,12 +115,14 @@ module _ (n : ℕ) (some : 1 ≤ n) (s : Areas) (b : Book) (i : OpenInv n s b) (
           (deep-mark grey (machine n s b) (i .going .stack) facts (i .going .deep)) refl refl
           (pass-beside (scanned (s .copies) (s .work) n grey) 1 (at (s .work) passPageAt) (stepsNext (s .work) n) .below reopeningAt (omega arith)
           ∙ scanned-other n (s .copies) (s .work) grey refs len ok reopeningAt (below-colours n reopeningAt (omega arith)))
-          (λ j l. pass-beside (scanned (s .copies) (s .work) n grey) 1 (at (s .work) passPageAt) (stepsNext (s .work) n) .above j (omega arith)
-          ∙ scanned-other n (s .copies) (s .work) grey refs len ok j (behind-colours n j l))
+          scan-behind
           scan-same (ap (λ (a : Tables). a .kn) t)
 
     pub turn-same : locksOf (turning s n .after .work) n ≡ locksOf (s .work) n
     turn-same = moved-locks n (s .work) 2 0 (stepsNext (s .work) n) (h .sized .tables .1)
+
+    pub turn-behind : Behind n (s .work) (turning s n .after .work)
+    turn-behind j l = pass-beside (s .work) 2 0 (stepsNext (s .work) n) .above j (omega arith)
 
     pub turn-kept : leb (lowestGrey (s .work) n) (objectCount n) ≡ false → OpenInv n (turning s n .after) b
     turn-kept g =
@@ -128,7 +134,7 @@ module _ (n : ℕ) (some : 1 ≤ n) (s : Areas) (b : Book) (i : OpenInv n s b) (
         passing (withPass w 2 0 (stepsNext w n)) (C.turned (machine n s b))
         (record { count = refl; locks = sym turn-same; tables = sym t; pass = sym (moved-pass n w 2 0 (stepsNext w n) len ∙ rw (steps-suc w n room) refl) })
         (deep-turn (machine n s b) (i .going .stack) (record { phase = phase; noGrey = λ o low top. no-grey w n g o }) (i .going .deep)) refl refl
-        (pass-beside w 2 0 (stepsNext w n) .below reopeningAt (omega arith)) (λ j l. pass-beside w 2 0 (stepsNext w n) .above j (omega arith)) turn-same (ap (λ (a : Tables). a .kn) t)
+        (pass-beside w 2 0 (stepsNext w n) .below reopeningAt (omega arith)) turn-behind turn-same (ap (λ (a : Tables). a .kn) t)
 
   -- sweeping
   module _ (phase : phaseOf (at (s .work) phaseAt) ≡ M.sweeping) where

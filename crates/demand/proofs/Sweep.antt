@@ -215,7 +215,7 @@ module _ (n : ℕ) (some : 1 ≤ n) (s : Areas) (b : Book) (i : OpenInv n s b) (
   received-shown = ap (λ (a : List ℕ). effect a r) (i .full) ∙ sym (ap (pagesAfter (b .origin)) full-lines)
 
   -- what transactions can take back is on other pages
-  spares-items : (u x : ℕ) → locksOf (s .work) n .wr u (Geometry.pageOf x) ≡ true → touches r x ≡ false
+  pub spares-items : (u x : ℕ) → locksOf (s .work) n .wr u (Geometry.pageOf x) ≡ true → touches r x ≡ false
   unfolding pageOf
   spares-items u x w = by-bool (eqb page (Geometry.pageOf x) && bit map (slotOf x))
       (λ e. clash w (page-free x e u))

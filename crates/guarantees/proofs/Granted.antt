@@ -146,7 +146,7 @@ step-agrees n some s b i h ph l a o (turns m g d) = rw d (kept-locks n (s .work)
 step-agrees n some s b i h ph l a o (sweeps m c d) = rw d (kept-locks n (s .work) _ l (advance-same n some s b i h (sweeping-phase (at (s .work) phaseAt) ph m)) a)
 
 -- a reopen, and its steps
-reopen-clear : (s : Areas) (j : ℕ) → 2 ≤ j → at (reopened s .work) j ≡ 0
+pub reopen-clear : (s : Areas) (j : ℕ) → 2 ≤ j → at (reopened s .work) j ≡ 0
 unfolding reopened
 reopen-clear s j h = getD-set-other (replicate (length (s .work)) 0) 0 j 1 0 (λ z. omega arith) ∙ zero-at (length (s .work)) j
 
@@ -177,7 +177,7 @@ module _ (n : ℕ) (some : 1 ≤ n) (s : Areas) (b : Book) (v : Inv3 n s b) (l :
   abbrev Leaves : Granted → Areas → Type 0
   Leaves k x = Agrees n (x .work) k
 
-  accepted-agrees : (c : Call) → accepted (perform s c .answer) ≡ true → Agrees n (perform s c .after .work) (granting l c)
+  pub accepted-agrees : (c : Call) → accepted (perform s c .answer) ≡ true → Agrees n (perform s c .after .work) (granting l c)
   unfolding perform begun committed aborted created wordSet flushed markSet backTo
   accepted-agrees (begin t) a = through true s _ _ _ n (Leaves l) (begin-outcome s t) a (here (begin t) refl a .size)
       (λ h k. let e = begin-locks (s .work) n t some (h .sized .tables .1) (begin-facts s n t k .txn) in agrees-same n (s .work) _ l (ap (λ (k : Locks). k .rd) e) (ap (λ (k : Locks). k .wr) e) g)

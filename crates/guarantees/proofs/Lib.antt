@@ -20,3 +20,8 @@ pub mod Ledgers
 pub mod Granted
 pub mod Barred
 pub mod Holders
+pub mod MarkNotes
+pub mod MarkSteps
+pub mod MarkMoves
+pub mod MarkCalls
+pub mod Restoring

@@ -110,9 +110,9 @@ granting l (mark t m) = l
 granting l (back t m) = l
 granting l (look q) = l
 
--- a cut leaves no lock
+-- a cut leaves no lock; the pages do not matter
 abbrev pub grants : Ledger Granted
-grants = record { first = nothing; enters = granting; drops = λ l. nothing }
+grants = record { first = nothing; enters = λ l c r. granting l c; drops = λ l. nothing }
 
 -- u was let lock the page, to read it or to write it
 abbrev pub holds : Granted → ℕ → ℕ → Bool

@@ -10,3 +10,4 @@ pub mod Chains
 pub mod Cuts
 pub mod Ledgers
 pub mod Holders
+pub mod Restoring
