@@ -13,6 +13,7 @@ pub mod Refusals
 pub mod Stages
 pub mod Held
 pub mod Chains
+pub mod Cuts
 pub mod Committed
 pub mod Ledgers
 pub mod Granted

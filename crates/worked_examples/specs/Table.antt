@@ -11,6 +11,7 @@ use Rattle.areas.specs.Answers.{answerOf, valueOf, accepted}
 use Rattle.areas.specs.Areas.{Areas, areas}
 use Rattle.calls.specs.Formatting.{formatted}
 use Rattle.calls.specs.Objects.{bufferAfter}
+use Rattle.calls.specs.Transactions.{withoutMarks}
 use Rattle.calls.specs.Calls.{Call, begin, commit, lockWrite, read, create, setWord, flush, store, empty, reopen, perform}
 use Rattle.texts.specs.Text.{bytes}
 use Rattle.bench_run.specs.Bench.{benchStore, benchOutput}
@@ -102,5 +103,5 @@ table =
     ∷ []
 
 pub table-right : allRight table ≡ true
-unfolding allRight right table sameWords sameAreas refusedBy readRefusedBy after calls same-texts fieldsOf numbersFrom callAlone callOne callTwo callFour commandOf linesOf digitsFrom numberIn digitsIn decimal outputLine pageSent transactionCall lockCall objectCall stabilityCall passCall reopeningCall benchCall outputFrom benchOutput
+unfolding allRight right table sameWords sameAreas refusedBy readRefusedBy after calls withoutMarks same-texts fieldsOf numbersFrom callAlone callOne callTwo callFour commandOf linesOf digitsFrom numberIn digitsIn decimal outputLine pageSent transactionCall lockCall objectCall stabilityCall passCall reopeningCall benchCall outputFrom benchOutput
 table-right = refl
