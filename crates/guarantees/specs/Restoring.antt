@@ -1,5 +1,5 @@
--- Document 02, L3: 'going back .. leaves each page that t had write-locked at the mark as it was then, and each locked since as committed',
--- over lists, by a ledger of the locks that were granted and of what each mark found. Assumes nothing.
+-- Document 02, L3, what going back restores: each page that t had locked for writing at the mark is received as it was then, each locked
+-- since as committed. Over lists, by a ledger of the locks that were granted and of what each mark found. Assumes nothing.
 use Prim.Native.Nat.{ℕ, _≤_, _<_}
 use mathlib.Core.Path.{_≡_}
 use mathlib.Core.Bool.{Bool, true, false}
