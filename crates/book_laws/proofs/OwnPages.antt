@@ -8,15 +8,15 @@ use mathlib.Core.List.{List, [], _∷_}
 use mathlib.Core.Logic.{inl, inr}
 use lib.ListN.{drop}
 use lib.Dec.{eqb}
-use borrow.Author.Tests.{eqb-true, eqb-false, eq-eqb, ne-eqb}
-use Rattle.words.specs.Tests.{by-bool, clash, or-true, or-false, and-true, and-false}
+use borrow.Author.Tests.{eq-eqb, ne-eqb}
+use Rattle.words.specs.Tests.{by-bool, clash, or-false, and-true, and-false}
 use Rattle.pages.specs.Geometry.{pageOf}
 use Rattle.records.specs.declared.Record.{Record}
 use Rattle.records.specs.Records.{isSweep}
 use Rattle.collector.specs.Objects.{Obj, bornAt}
 use Rattle.collector.specs.Undo.{Item}
 use Rattle.machine_view.specs.View.{applied}
-use Rattle.book.specs.Lines.{Line, line, isLeft, left, struckNewest, hasCommit, filtered}
+use Rattle.book.specs.Lines.{Line, isLeft, left, struckNewest, hasCommit, filtered}
 use Rattle.book.specs.Books.{Book, runs, countsCommitted, countsFull}
 use Rattle.book.specs.Feeding.{undoes, goesBack}
 use Rattle.book_laws.specs.Seen.{Seen, touches, seen, seenCommitted, seenFull}
@@ -26,7 +26,7 @@ use Rattle.book_laws.proofs.Folds.{untouched, seen-past, seen-out, seen
 use Rattle.book_laws.proofs.Undoing.{struck-not-left, strikes-newest, Newest, newest}
 use Rattle.book_laws.proofs.Ends.{unended, left-facts, commit-strikes, undoing-kind}
 use Rattle.book_laws.proofs.Committed.{alike-undoing, filtered-strikes}
-use Rattle.book_laws.proofs.Running.{runs-by, runs-it}
+use Rattle.book_laws.proofs.Running.{runs-by}
 use Rattle.book_laws.proofs.Ending.{touch, by-owner, full-owner, open-line}
 use Rattle.book_laws.proofs.Openness.{open-intro, open-undo}
 use Rattle.book_laws.proofs.Finishing.{undo-lines, undo-left, undo-inv}

@@ -4,7 +4,7 @@ use Prim.Native.Nat.{ℕ, suc, _+_, _≤_, _<_}
 use native.Mathlib.Omega.{arith}
 use mathlib.Core.Path.{_≡_, refl, sym, ap, _∙_, subst}
 use mathlib.Core.Bool.{Bool, true, false}
-use mathlib.Core.List.{List, _∷_}
+use mathlib.Core.List.{List}
 use lib.ListN.{length, set, replicate}
 use lib.Seq.{getD-set-other}
 use lib.Dec.{eqb, ltb}
@@ -41,11 +41,11 @@ use Rattle.acceptance.specs.Pass.{pass-outcome, step-outcome, step-facts, step-
 use Rattle.acceptance.specs.Reopening.{reopen-ran}
 use Rattle.acceptance.specs.Room.{Room}
 use Rattle.book.specs.Lines.{line}
-use Rattle.book.specs.Books.{Book, fullPages, awaiting, stopped}
+use Rattle.book.specs.Books.{Book, fullPages}
 use Rattle.book.specs.Feeding.{fed}
 use Rattle.book.specs.Demand.{Event, call, power, Point, accepts, after, start}
 use Rattle.collector.specs.State as M
-use Rattle.machine_calls.specs.Tables.{phaseOf, locksOf}
+use Rattle.machine_calls.specs.Tables.{phaseOf}
 use Rattle.machine_calls.proofs.Created.{create-beside}
 use Rattle.machine_calls.proofs.Flushed.{flush-beside}
 use Rattle.machine_calls.proofs.Frames.{beside-fill}

@@ -1,5 +1,5 @@
 -- Setting a mark, and going back to one: what the ledger notes at a transaction's marks then. n is the number of pages. Assumes nothing.
-use Prim.Native.Nat.{ℕ, zero, suc, _+_, _*_, _-_, _≤_, _<_}
+use Prim.Native.Nat.{ℕ, zero, suc, _+_, _-_, _≤_, _<_}
 use native.Mathlib.Omega.{arith}
 use native.Mathlib.Decide.{ℕ-discrete}
 use mathlib.Core.Path.{_≡_, refl, sym, ap, _∙_, subst}
@@ -7,7 +7,7 @@ use mathlib.Core.Bool.{Bool, true, false}
 use mathlib.Core.List.{List, [], _∷_}
 use lib.ListN.{length, set, drop}
 use lib.Seq.{getD-set-other}
-use lib.Dec.{eqb, ltb}
+use lib.Dec.{ltb}
 use borrow.Author.Tests.{eq-eqb, ne-eqb, ltb-false}
 use Rattle.words.specs.Tests.{by-bool, clash}
 use Rattle.words.specs.Spans.{over, over-outside}
@@ -18,30 +18,29 @@ use Rattle.areas.specs.Areas.{Areas}
 use Rattle.areas.specs.Entry.{records}
 use Rattle.areas.specs.Layout.{markCount, markedAt, orderAt, orderTop, undoingFrom}
 use Rattle.areas.specs.Tables.{at}
-use Rattle.calls.specs.Calls.Call.{mark, back}
 use Rattle.calls.specs.Marks.{orderOf, movedUp, othersSet, setLast, dropped, sinceMark, wentBack}
 use Rattle.calls.specs.Transactions.{changesOf}
 use Rattle.acceptance.specs.Entered.{Open}
 use Rattle.acceptance.specs.Marks.{MarkFacts, BackFacts}
 use Rattle.book.specs.Lines.{Line, isLeft, left, filtered}
-use Rattle.book.specs.Books.{Book, countsFull}
+use Rattle.book.specs.Books.{Book}
 use Rattle.book.specs.Feeding.{put, marks, goesBack}
 use Rattle.collector.specs.Objects.{Obj}
 use Rattle.machine_view.specs.View.{view, applied}
 use Rattle.machine_calls.specs.Tables.{locksOf}
-use Rattle.book_laws.specs.Seen.{touches, Seen, seenCommitted, seenFull}
+use Rattle.book_laws.specs.Seen.{touches, seenCommitted}
 use Rattle.book_laws.specs.Striking.{entries}
-use Rattle.book_laws.specs.Keeping.{In, here, later, Runs, Each}
+use Rattle.book_laws.specs.Keeping.{here, later, Runs, Each}
 use Rattle.book_laws.proofs.Backing.{change-other}
 use Rattle.book_laws.proofs.Openness.{open-intro}
 use Rattle.book_laws.proofs.OwnPages.{appliedAll, leftOf, left-past, left-here, still, own-view, went-marked}
-use Rattle.demand.proofs.State.{machine, OpenInv}
+use Rattle.demand.proofs.State.{OpenInv}
 use Rattle.demand.proofs.Change.{full-shown}
 use Rattle.demand.proofs.Went.{Went}
-use Rattle.demand.proofs.Marks.{other-unset, count, gone}
+use Rattle.demand.proofs.Marks.{other-unset, gone}
 use Rattle.guarantees.specs.Restoring.{Noted, notes}
 use Rattle.guarantees.proofs.Granted.{Agrees}
-use Rattle.guarantees.proofs.MarkOrder.{Orderly, orderly-same, keptPlace, set-orderly, set-before, set-among, dropped-place, dropped-orderly}
+use Rattle.guarantees.proofs.MarkOrder.{orderly-same, keptPlace, set-orderly, set-before, set-among, dropped-place, dropped-orderly}
 use Rattle.guarantees.proofs.MarkNotes.{oldest, AtMark, OfTxn, Stays, stays-at, stays-all, quiet-stays, gone-stays, back-stays}
 use Rattle.guarantees.proofs.MarkSteps.{active-runs}
 

@@ -1,12 +1,12 @@
 -- What accepted calls that add lines or end a transaction leave of what the ledger notes at a transaction's marks. n is the number of
 -- pages. Assumes nothing.
-use Prim.Native.Nat.{ℕ, zero, suc, _+_, _-_, _≤_, _<_}
+use Prim.Native.Nat.{ℕ, _+_, _≤_, _<_}
 use native.Mathlib.Omega.{arith}
 use native.Mathlib.Decide.{ℕ-discrete}
-use mathlib.Core.Path.{_≡_, refl, sym, ap, _∙_, subst}
-use mathlib.Core.Bool.{Bool, true, false, _&&_}
+use mathlib.Core.Path.{_≡_, refl, sym, ap, _∙_}
+use mathlib.Core.Bool.{true, false}
 use mathlib.Core.List.{List, _∷_}
-use lib.ListN.{length, drop}
+use lib.ListN.{length}
 use lib.Dec.{eqb}
 use borrow.Author.Tests.{ne-eqb}
 use Rattle.words.specs.Tests.{by-bool, clash}
@@ -14,23 +14,21 @@ use Rattle.pages.specs.Geometry.{pageOf}
 use Rattle.records.specs.declared.Record.{Record}
 use Rattle.records.specs.Records.{txnCount, beginOf, commitOf, abortedOf, isSweep}
 use Rattle.areas.specs.Areas.{Areas}
-use Rattle.areas.specs.Layout.{activeAt, markCount, markedAt, orderAt, undoingFrom}
-use Rattle.areas.specs.Tables.{at, gain, isActive}
+use Rattle.areas.specs.Layout.{activeAt, markCount, orderAt, undoingFrom}
+use Rattle.areas.specs.Tables.{gain, isActive}
 use Rattle.calls.specs.Calls.Call.{begin, commit, abort}
 use Rattle.calls.specs.Marks.{orderOf}
 use Rattle.calls.specs.Transactions.{knowsRoot, endedTables}
 use Rattle.acceptance.specs.Entered.{Open}
 use Rattle.acceptance.specs.Transactions.{BeginFacts}
-use Rattle.book.specs.Lines.{Line, line, left, undoneLines}
+use Rattle.book.specs.Lines.{line, left, undoneLines}
 use Rattle.book.specs.Books.{Book}
 use Rattle.book.specs.Feeding.{withLines, adds, begins, ends, goesBack}
-use Rattle.collector.specs.State.{Locks}
 use Rattle.machine_calls.specs.Tables.{locksOf}
 use Rattle.machine_calls.proofs.Begun.{begin-beside}
 use Rattle.machine_calls.proofs.Ended.{ended-unset, ended-others}
 use Rattle.machine_calls.proofs.Facts.{act-is}
 use Rattle.book_laws.specs.After.{committedBy, abortedBy}
-use Rattle.book_laws.specs.Seen.{seenCommitted}
 use Rattle.book_laws.specs.Keeping.{Runs, BookInv}
 use Rattle.book_laws.proofs.Running.{put-other}
 use Rattle.book_laws.proofs.Feeding.{begin-committed, adds-committed}
@@ -41,7 +39,7 @@ use Rattle.demand.proofs.Change.{machine-shows}
 use Rattle.guarantees.specs.Holders.{fallen}
 use Rattle.guarantees.specs.Restoring.{Noted, locking}
 use Rattle.guarantees.proofs.Granted.{Agrees}
-use Rattle.guarantees.proofs.MarkNotes.{OfTxn, unmarked, idle-unmarked, Stays, stays-all, line-stays, gone-stays}
+use Rattle.guarantees.proofs.MarkNotes.{OfTxn, unmarked, idle-unmarked, stays-all, line-stays, gone-stays}
 
 module _ (n : ℕ) (some : 1 ≤ n) (s : Areas) (b : Book) (i : OpenInv n s b) (h : Open s n) (l : Noted) (g : Agrees n (s .work) (l .granted)) (t : ℕ) (small : t < txnCount) (o : OfTxn n (s .work) b l t) where
   -- who is active runs

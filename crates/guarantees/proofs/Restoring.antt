@@ -1,18 +1,15 @@
 -- Document 02, L3: after an accepted going back each page that t had been let write at the mark is received as it was then, each that it
 -- was let write since as committed, and any other as it was. n is the number of pages. Assumes nothing.
-use Prim.Native.Nat.{ℕ, _-_, _≤_, _<_}
+use Prim.Native.Nat.{ℕ, _-_, _≤_}
 use native.Mathlib.Omega.{arith}
 use mathlib.Core.Path.{_≡_, refl, sym, ap, _∙_}
 use mathlib.Core.Bool.{true, false}
 use mathlib.Core.List.{List}
-use lib.ListN.{drop}
 use Rattle.pages.specs.Geometry.{pageOf}
 use Rattle.records.specs.declared.Record.{Record}
-use Rattle.records.specs.Records.{txnCount}
-use Rattle.areas.specs.Answers.{accepted}
 use Rattle.areas.specs.Areas.{Areas}
 use Rattle.calls.specs.Calls.{perform, back}
-use Rattle.acceptance.specs.Entered.{Open, opened}
+use Rattle.acceptance.specs.Entered.{opened}
 use Rattle.acceptance.specs.Marks.{BackFacts, back-outcome, back-facts}
 use Rattle.book.specs.Lines.{left}
 use Rattle.book.specs.Books.{Book, committedPages}
@@ -22,7 +19,7 @@ use Rattle.collector.specs.Objects.{Obj}
 use Rattle.machine_view.specs.View.{view}
 use Rattle.machine_view.proofs.Effects.{view-occ, view-word}
 use Rattle.machine_calls.specs.Tables.{locksOf}
-use Rattle.book_laws.specs.Seen.{Seen, seenCommitted, seenFull}
+use Rattle.book_laws.specs.Seen.{Seen, seenCommitted}
 use Rattle.book_laws.specs.Keeping.{Runs}
 use Rattle.book_laws.proofs.GoingBack.{went-running}
 use Rattle.book_laws.proofs.Pages.{committed-view}
