@@ -18,7 +18,6 @@ use Rattle.areas.specs.Areas.{Areas}
 use Rattle.areas.specs.Entry.{records}
 use Rattle.areas.specs.Layout.{markCount, markedAt, orderAt, orderTop, undoingFrom}
 use Rattle.areas.specs.Tables.{at}
-use Rattle.calls.specs.Calls.Call.{mark}
 use Rattle.calls.specs.Marks.{orderOf, movedUp, othersSet, setLast, dropped, sinceMark, wentBack}
 use Rattle.calls.specs.Transactions.{changesOf}
 use Rattle.acceptance.specs.Entered.{Open}

@@ -29,7 +29,7 @@ unnoted = record { granted = nothing; pages = λ t m. []; owned = λ t m p. fals
 abbrev pub notes : Noted → ℕ → ℕ → List ℕ → Noted
 notes l t m r = record { granted = l .granted; pages = put (l .pages) t (put (l .pages t) m r); owned = put (l .owned) t (put (l .owned t) m (l .granted .writes t)) }
 
--- any other call concerns the locks alone
+-- any other call concerns the locks alone, but for a reopen: no transaction and no mark remains
 abbrev pub locking : Noted → Call → Noted
 locking l c = record { granted = granting (l .granted) c; pages = l .pages; owned = l .owned }
 
@@ -48,7 +48,7 @@ noting l (store p) r = locking l (store p)
 noting l empty r = locking l empty
 noting l pass r = locking l pass
 noting l step r = locking l step
-noting l reopen r = locking l reopen
+noting l reopen r = unnoted
 noting l restep r = locking l restep
 noting l (mark t m) r = notes l t m r
 noting l (back t m) r = locking l (back t m)
