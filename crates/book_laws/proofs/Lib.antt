@@ -20,3 +20,4 @@ pub mod Soundness
 pub mod Sweeps
 pub mod Pages
 pub mod OwnPages
+pub mod GoneBack

@@ -15,15 +15,14 @@ use Rattle.areas.specs.Areas.{Areas, receivedCount}
 use Rattle.areas.specs.Layout.{tableWords, markCount, markedAt, orderAt, undoingAt}
 use Rattle.areas.specs.Tables.{at, undoes}
 use Rattle.calls.specs.Marks.{orderOf}
-use Rattle.book.specs.Lines.{isLeft, filtered}
 use Rattle.book.specs.Books.{Book}
-use Rattle.book_laws.specs.Striking.{entries}
 use Rattle.book_laws.specs.Keeping.{Runs}
+use Rattle.book_laws.proofs.OwnPages.{leftOf}
 use Rattle.demand.proofs.LeftRecords.{leftNext, leftRecords, left-same, left-append}
 
 -- the records of the lines that are left
 abbrev pub leftEntries : Book → ℕ → List Record
-leftEntries b t = entries (filtered (isLeft (b .running t)) (b .lines))
+leftEntries b t = leftOf (b .running t) (b .lines)
 
 pub record Notes (n : ℕ) (s : Areas) (b : Book) : Type 0 where
   -- the log and the undoing words tell which changes are left

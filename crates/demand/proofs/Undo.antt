@@ -29,7 +29,7 @@ use Rattle.areas.specs.Tables.{at, undoes}
 use Rattle.areas.specs.Entry.{records}
 use Rattle.acceptance.specs.Lengths.{Sized}
 use Rattle.calls.specs.Marks.{takenBack}
-use Rattle.book.specs.Lines.{Line, line, struckOut, isLeft, left, struckNewest, hasCommit, newestCreates, filtered}
+use Rattle.book.specs.Lines.{Line, line, struckOut, isLeft, left, struckNewest, hasCommit, newestCreates}
 use Rattle.book.specs.Books.{Book, runs, countsFull, fullLines, fullPages}
 use Rattle.book.specs.Feeding as Feeding
 use Rattle.collector.specs.Bits.{_and_, _or_, and-intro}
@@ -55,17 +55,18 @@ use Rattle.recovery_proof.proofs.Reversal.{Change, undoing-names, undoing-objec
 use Rattle.recovery_proof.proofs.Shapes.{unnamed}
 use Rattle.recovery_proof.proofs.Steps.{logOf, log-change}
 use Rattle.book_laws.specs.Seen.{touches, Seen, seen, seenCommitted, seenFull}
-use Rattle.book_laws.specs.Striking.{undoingLine, Strikes, entries, Backs, past}
+use Rattle.book_laws.specs.Striking.{undoingLine, Strikes, Backs, past}
 use Rattle.book_laws.specs.Keeping.{In, Runs, SoundBook, Writers}
 use Rattle.book_laws.proofs.Acts.{picked-object, picked-tag}
 use Rattle.book_laws.proofs.Undoing.{struck-not-left, strikes-newest, strikes-length, strikes-entries, Newest, newest, newest-one}
 use Rattle.book_laws.proofs.Folds.{seen-agree, seen-out}
 use Rattle.book_laws.proofs.Finishing.{undo-lines, undo-inv, newest-txn}
-use Rattle.book_laws.proofs.Ends.{left-facts, unended, commit-strikes, undoing-kind}
-use Rattle.book_laws.proofs.Committed.{Alike, alike-undoing, alike-below, filtered-strikes}
+use Rattle.book_laws.proofs.Ends.{left-facts, unended, undoing-kind}
+use Rattle.book_laws.proofs.Committed.{Alike, alike-undoing, alike-below}
 use Rattle.book_laws.proofs.Backing.{every-map, change-other, shows, Undone, backs-undone, backs-strikes, backs-length, backs-agree}
 use Rattle.book_laws.proofs.Openness.{open-intro, open-undo}
 use Rattle.book_laws.proofs.Soundness.{undo-sound}
+use Rattle.book_laws.proofs.GoneBack.{undo-own, undo-other, undo-committed, undo-counts}
 use Rattle.demand.proofs.State.{machine, received, OpenInv}
 use Rattle.demand.proofs.LeftRecords.{leftNext, leftRecords, left-append, left-same}
 use Rattle.demand.proofs.Notes.{leftEntries, Notes}
@@ -207,13 +208,8 @@ module _ (n : ℕ) (some : 1 ≤ n) (s : Areas) (b : Book) (i : OpenInv n s b) (
   none : hasCommit j (b .lines) ≡ false
   none = unended j (b .lines) (i .book .unended t run)
 
-  commits : (h : ℕ) → hasCommit h (b′ .lines) ≡ hasCommit h (b .lines)
-  unfolding hasCommit
-  commits h = ap (hasCommit h) lines ∙ rw (undoing-kind r .uncommitted) (commit-strikes h j struck)
-
   counts : (m : Line) → countsFull b′ m ≡ countsFull b m
-  unfolding runs
-  counts m = rw (commits (m .owner))
+  counts = undo-counts b (i .book) t run k more
 
   new-out : countsFull b (undoingLine j l) ≡ false
   new-out = rw (undoing-kind r .unswept) refl
@@ -225,7 +221,7 @@ module _ (n : ℕ) (some : 1 ≤ n) (s : Areas) (b : Book) (i : OpenInv n s b) (
       ∙ und .without x
 
   committed-same : (x : ℕ) → seenCommitted b′ x ≡ seenCommitted b x
-  committed-same x = rw lines (alike-undoing j l none struck .shows (b .origin) x)
+  committed-same = undo-committed b (i .book) t run k more
 
   -- the collector's part
   abbrev m : ℕ
@@ -388,16 +384,10 @@ module _ (n : ℕ) (some : 1 ≤ n) (s : Areas) (b : Book) (i : OpenInv n s b) (
   noted = ap (λ (c : ℕ). not (eqb c 0)) (back-noted (s .work) n t (receivedCount s) r (ranged .0) (ranged .1) (let e = z .work-len in omega arith))
 
   pub entries-own : leftEntries b′ t ≡ drop 1 (leftEntries b t)
-  unfolding entries filtered
-  entries-own = ap (λ (ls : List Line). entries (filtered (isLeft j) ls)) lines ∙ rw (struck-not-left j (line q j)) (sym (ap (λ (ls : List Line). drop 1 (entries ls)) (top .rest)))
+  entries-own = undo-own b (i .book) t run k more 0
 
   pub entries-other : (v : ℕ) → Runs b v → eqb v t ≡ false → leftEntries b′ v ≡ leftEntries b v
-  unfolding filtered
-  entries-other v rv e = ap (λ (ls : List Line). entries (filtered (isLeft (b .running v)) ls)) lines ∙ rw (struck-not-left (b .running v) (line q j))
-      (ap entries (filtered-strikes (isLeft (b .running v)) j (λ y c. (is-not y c, struck-not-left (b .running v) y)) struck))
-    where
-      is-not : (y : Line) → isLeft j y ≡ true → isLeft (b .running v) y ≡ false
-      is-not y c = by-bool (isLeft (b .running v) y) (λ d. absurd (eqb-false v t e (i .book .distinct v t rv (sym (left-facts (b .running v) y d .owner) ∙ left-facts j y c .owner)))) (λ d. d)
+  entries-other v rv e = undo-other b (i .book) t run k more v rv (eqb-false v t e)
 
   left-own : leftRecords (undoes w n) (recorded (s .log) (receivedCount s) q) t (receivedCount s + 1) ≡ leftEntries b′ t
   left-own = left-append (undoes (s .work) n) (undoes w n) (s .log) t (receivedCount s) q long (λ x h. undoes-same x (λ e. omega arith))

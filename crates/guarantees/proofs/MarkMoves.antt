@@ -33,7 +33,8 @@ use Rattle.book_laws.specs.Striking.{entries}
 use Rattle.book_laws.specs.Keeping.{here, later, Runs, Each}
 use Rattle.book_laws.proofs.Backing.{change-other}
 use Rattle.book_laws.proofs.Openness.{open-intro}
-use Rattle.book_laws.proofs.OwnPages.{appliedAll, leftOf, left-past, left-here, still, own-view, went-marked}
+use Rattle.book_laws.proofs.OwnPages.{appliedAll, leftOf, left-past, left-here, still, own-view}
+use Rattle.book_laws.proofs.GoneBack.{went-marked}
 use Rattle.demand.proofs.State.{OpenInv}
 use Rattle.demand.proofs.Change.{full-shown}
 use Rattle.demand.proofs.Went.{Went}

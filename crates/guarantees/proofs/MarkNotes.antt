@@ -21,7 +21,8 @@ use Rattle.book_laws.specs.Seen.{Seen, seenCommitted}
 use Rattle.book_laws.specs.Keeping.{Runs, BookInv}
 use Rattle.book_laws.proofs.Undoing.{left-length}
 use Rattle.book_laws.proofs.GoingBack.{went-left, went-running}
-use Rattle.book_laws.proofs.OwnPages.{appliedAll, leftOf, left-past, left-here, went-own, went-other, went-committed, went-marked}
+use Rattle.book_laws.proofs.OwnPages.{appliedAll, leftOf, left-past, left-here}
+use Rattle.book_laws.proofs.GoneBack.{went-own, went-other, went-committed, went-marked}
 use Rattle.demand.proofs.OneRecord.{length-entries}
 use Rattle.guarantees.specs.Restoring.{Noted}
 use Rattle.guarantees.proofs.MarkOrder.{Orderly, orderly-same, orderly-none}

@@ -23,7 +23,8 @@ use Rattle.book_laws.specs.Seen.{Seen, seenCommitted}
 use Rattle.book_laws.specs.Keeping.{Runs}
 use Rattle.book_laws.proofs.GoingBack.{went-running}
 use Rattle.book_laws.proofs.Pages.{committed-view}
-use Rattle.book_laws.proofs.OwnPages.{appliedAll, leftOf, own-view, went-own, went-committed, went-full}
+use Rattle.book_laws.proofs.OwnPages.{appliedAll, leftOf, own-view}
+use Rattle.book_laws.proofs.GoneBack.{went-own, went-committed, went-full}
 use Rattle.demand.proofs.State.{OpenInv}
 use Rattle.demand.proofs.Finished.{accepted-open}
 use Rattle.demand.proofs.Change.{full-shown}
