@@ -1,6 +1,6 @@
 /* A depot's day through the C functions: a dispenser with two valves, one of them replaced, what
- * leads to the old one, a pass that frees it, a page that another has, a power cut in the middle of a
- * job, and the start after it.
+ * leads to the old one, a pass that frees it, a meter layout that is tried and taken back, a page that
+ * another has, a power cut in the middle of a job, and the start after it.
  * docs/CALLING.md explains the calls; examples/depot.rs is the same day in Rust. */
 #include <inttypes.h>
 #include <stdio.h>
@@ -10,13 +10,15 @@
 #include "kophdaen.h"
 
 enum { PAGES = 4, RECORDS = 64, PAGE_WORDS = KOPHDAEN_PAGE_WORDS, RECORD_WORDS = KOPHDAEN_RECORD_WORDS };
-enum { ROOT = 1, DISPENSER = 17, OLD_VALVE = 18, OTHER_VALVE = 19, NEW_VALVE = 20 };
+enum { ROOT = 1, DISPENSER = 17, OLD_VALVE = 18, OTHER_VALVE = 19, NEW_VALVE = 20, METER = 21, TRIED_METER = 22 };
+enum { METER_WORD = 2 };          /* the dispenser's reference to its meter */
 enum { SERIAL = 4 };              /* the data word with a valve's serial number */
 enum { PHASE = 2, SWEEPING = 2 }; /* the pass phase in the working tables: docs/LAYOUT.md */
 
 /* The six areas, each lent as a pointer and its length in words. */
 static uint32_t stored[PAGES * PAGE_WORDS], copies[PAGES * PAGE_WORDS], received[PAGES * PAGE_WORDS];
-static uint32_t records[RECORDS * RECORD_WORDS], counts[KOPHDAEN_COUNTS_WORDS], work[KOPHDAEN_WORK_WORDS(PAGES)];
+static uint32_t records[RECORDS * RECORD_WORDS], counts[KOPHDAEN_COUNTS_WORDS];
+static uint32_t work[KOPHDAEN_WORK_WORDS(PAGES, RECORDS)];
 #define LENT(area) area, sizeof area / sizeof *area
 static const kophdaen_areas depot = {LENT(stored), LENT(copies), LENT(received),
                                      LENT(records), LENT(counts), LENT(work)};
@@ -183,6 +185,35 @@ static void why(void)
     printf("\n");
 }
 
+static void fit_meter(uint32_t t, uint32_t meter)
+{
+    done(kophdaen_areas_create(&depot, t, meter));
+    done(kophdaen_areas_set_word(&depot, t, DISPENSER, METER_WORD, meter));
+    flush(t, 1);
+}
+
+static void show_meter(uint32_t t, const char *when)
+{
+    uint32_t words[KOPHDAEN_OBJECT_WORDS];
+    done(kophdaen_areas_read(&depot, LENT(words), t, DISPENSER));
+    printf("%s: dispenser %d, meter %" PRIu32 "\n", when, DISPENSER, words[METER_WORD]);
+}
+
+/* A crew fits a meter, tries another layout, and goes back to the mark that it set between them. */
+static void lay_out(uint32_t t)
+{
+    enum { FITTED = 0 }; /* marks are 0 to 3 */
+    reach_dispenser(t);
+    fit_meter(t, METER);
+    done(kophdaen_areas_mark(&depot, t, FITTED));
+    fit_meter(t, TRIED_METER);
+    show_meter(t, "tried");
+    done(kophdaen_areas_back(&depot, t, FITTED));
+    show_meter(t, "back");
+    flush(t, 1); /* going back touched the page */
+    done(kophdaen_areas_commit(&depot, t));
+}
+
 /* Another crew asks for a page that is taken, and is told whom to call. */
 static void who_has(uint32_t t, uint32_t page)
 {
@@ -204,6 +235,7 @@ int main(void)
     replace_valve(1);
     why();
     printf("slots freed: %" PRIu32 "\n", collect());
+    lay_out(1);
     reach_dispenser(2);
     who_has(3, 1);
     done(kophdaen_areas_set_word(&depot, 2, DISPENSER, 0, 0)); /* a job that the cut stops */

@@ -1,6 +1,6 @@
 //! A depot's day through the Rust wrapper: a dispenser with two valves, one of them replaced, what
-//! leads to the old one, a pass that frees it, a page that another has, a power cut in the middle of a
-//! job, and the start after it.
+//! leads to the old one, a pass that frees it, a meter layout that is tried and taken back, a page that
+//! another has, a power cut in the middle of a job, and the start after it.
 //! docs/CALLING.md explains the calls; examples/depot.c is the same day in C.
 
 use kophdaen::{Answer, Store, CHAIN_WORDS, OBJECT_WORDS, PAGE_WORDS, RECORD_WORDS};
@@ -12,6 +12,10 @@ const DISPENSER: u32 = 17;
 const OLD_VALVE: u32 = 18;
 const OTHER_VALVE: u32 = 19;
 const NEW_VALVE: u32 = 20;
+const METER: u32 = 21;
+const TRIED_METER: u32 = 22;
+/// The dispenser's reference to its meter.
+const METER_WORD: usize = 2;
 /// The data word with a valve's serial number.
 const SERIAL: usize = 4;
 /// The pass phase in the working tables: docs/LAYOUT.md.
@@ -178,6 +182,33 @@ impl Server {
         println!();
     }
 
+    fn fit_meter(&mut self, t: u32, meter: u32) {
+        done(self.store.create(t, meter));
+        done(self.store.set_word(t, DISPENSER, METER_WORD as u32, meter));
+        self.flush(t, 1);
+    }
+
+    fn show_meter(&mut self, t: u32, when: &str) {
+        let mut words = [0; OBJECT_WORDS];
+        done(self.store.read(&mut words, t, DISPENSER));
+        println!("{when}: dispenser {DISPENSER}, meter {}", words[METER_WORD]);
+    }
+
+    /// A crew fits a meter, tries another layout, and goes back to the mark that it set between
+    /// them.
+    fn lay_out(&mut self, t: u32) {
+        const FITTED: u32 = 0; // marks are 0 to 3
+        self.reach_dispenser(t);
+        self.fit_meter(t, METER);
+        done(self.store.mark(t, FITTED));
+        self.fit_meter(t, TRIED_METER);
+        self.show_meter(t, "tried");
+        done(self.store.back(t, FITTED));
+        self.show_meter(t, "back");
+        self.flush(t, 1); // going back touched the page
+        done(self.store.commit(t));
+    }
+
     /// Another crew asks for a page that is taken, and is told whom to call.
     fn who_has(&mut self, t: u32, page: u32) {
         done(self.store.begin(t));
@@ -200,6 +231,7 @@ fn main() {
     server.replace_valve(1);
     server.why();
     println!("slots freed: {}", server.collect());
+    server.lay_out(1);
     server.reach_dispenser(2);
     server.who_has(3, 1);
     done(server.store.set_word(2, DISPENSER, 0, 0)); // a job that the cut stops

@@ -2,9 +2,9 @@
  *
  * Every call is lent the six areas of docs/LAYOUT.md, each as a pointer and its length in words:
  * stored pages, page copies, received pages (129 * P words each), the log (6 * L), the two log
- * counts (2) and the working tables (6 + 67 * P), with P from 1 to 256 and L from 1 to 4096. An
- * area that a call only reads is const. The library keeps no pointer and allocates nothing. A call
- * takes the areas, then the buffer or the image that it is lent, then its numbers;
+ * counts (2) and the working tables (134 + 67 * P + L), with P from 1 to 256 and L from 1 to 4096.
+ * An area that a call only reads is const. The library keeps no pointer and allocates nothing. A
+ * call takes the areas, then the buffer or the image that it is lent, then its numbers;
  * kophdaen_areas_NAME, at the end, takes the areas as one struct.
  *
  * What no call can look at is the caller's word: each pointer is valid for its length and aligned
@@ -12,7 +12,7 @@
  * does not overlap, its image or buffer neither with an area.
  *
  * A call answers  answer number * 2^32 + value : number 0 where accepted, else the number of the
- * refusal (1 to 15), with every buffer as it was. A refusal's value is 0, but that of 6, which is a
+ * refusal (1 to 16), with every buffer as it was. A refusal's value is 0, but that of 6, which is a
  * transaction that has the page: see the locks. Any words may be lent, but to the held calls.
  * docs/CALLING.md has the refusals, what to write to the disk and when, and names whole programs.
  */
@@ -33,7 +33,7 @@ extern "C" {
 #define KOPHDAEN_CHAIN_WORDS 4096u
 #define KOPHDAEN_RECORD_WORDS 6u
 #define KOPHDAEN_COUNTS_WORDS 2u
-#define KOPHDAEN_WORK_WORDS(pages) (6u + 67u * (pages))
+#define KOPHDAEN_WORK_WORDS(pages, records) (134u + 67u * (pages) + (records))
 
 /* Makes the root and no other object. Checks lengths only. Value 0. */
 uint64_t kophdaen_format(
@@ -56,6 +56,24 @@ uint64_t kophdaen_abort(
     const uint32_t *stored, size_t stored_words, uint32_t *copies, size_t copies_words,
     uint32_t *received, size_t received_words, uint32_t *log, size_t log_words,
     uint32_t *counts, size_t counts_words, uint32_t *work, size_t work_words, uint32_t t);
+
+/* Sets one of t's marks, 0 to 3, or sets it again: it is then the last one set. Marks end with t. Takes
+ * no log record. Refusals in order: 1, 2, 3 (t or mark out of range), 4 (t not active). Value 0. */
+uint64_t kophdaen_mark(
+    const uint32_t *stored, size_t stored_words, const uint32_t *copies, size_t copies_words,
+    const uint32_t *received, size_t received_words, const uint32_t *log, size_t log_words,
+    const uint32_t *counts, size_t counts_words, uint32_t *work, size_t work_words,
+    uint32_t t, uint32_t mark);
+
+/* Undoes t's creates and sets since the mark that are not undone yet, newest first, each by a record of
+ * its own. The mark stays, those set after it are dropped. The pages touched need flushing again; t no
+ * longer knows the objects whose create is undone; it keeps its locks. Refusals in order: 1, 2, 3, 4,
+ * 16 (mark not set), 11 (only in a state that no calls lead to). Value 0. */
+uint64_t kophdaen_back(
+    const uint32_t *stored, size_t stored_words, const uint32_t *copies, size_t copies_words,
+    uint32_t *received, size_t received_words, uint32_t *log, size_t log_words,
+    uint32_t *counts, size_t counts_words, uint32_t *work, size_t work_words,
+    uint32_t t, uint32_t mark);
 
 /* Locks never wait. Value 0; where the answer is 6, KOPHDAEN_VALUE(code) tells whom to call: the
  * lowest-numbered other transaction with any lock on the page, for reading or for writing (0 is
@@ -112,11 +130,11 @@ uint64_t kophdaen_store_page(
     const uint32_t *counts, size_t counts_words, const uint32_t *work, size_t work_words,
     uint32_t page);
 
-/* Sets both counts to 0. Value 0. */
+/* Sets both counts to 0, and the undoing words. Value 0. */
 uint64_t kophdaen_empty_log(
     const uint32_t *stored, size_t stored_words, const uint32_t *copies, size_t copies_words,
     const uint32_t *received, size_t received_words, const uint32_t *log, size_t log_words,
-    uint32_t *counts, size_t counts_words, const uint32_t *work, size_t work_words);
+    uint32_t *counts, size_t counts_words, uint32_t *work, size_t work_words);
 
 /* Value 0. */
 uint64_t kophdaen_start_pass(
@@ -172,6 +190,8 @@ uint64_t kophdaen_whole(const uint32_t *pages, size_t pages_words);
 __typeof__(kophdaen_begin) kophdaen_held_begin;
 __typeof__(kophdaen_commit) kophdaen_held_commit;
 __typeof__(kophdaen_abort) kophdaen_held_abort;
+__typeof__(kophdaen_mark) kophdaen_held_mark;
+__typeof__(kophdaen_back) kophdaen_held_back;
 __typeof__(kophdaen_lock_read) kophdaen_held_lock_read;
 __typeof__(kophdaen_lock_write) kophdaen_held_lock_write;
 __typeof__(kophdaen_read) kophdaen_held_read;
@@ -224,6 +244,16 @@ static inline uint64_t kophdaen_areas_commit(const kophdaen_areas *areas, uint32
 static inline uint64_t kophdaen_areas_abort(const kophdaen_areas *areas, uint32_t t)
 {
     return kophdaen_abort(KOPHDAEN_LENT(areas), t);
+}
+
+static inline uint64_t kophdaen_areas_mark(const kophdaen_areas *areas, uint32_t t, uint32_t mark)
+{
+    return kophdaen_mark(KOPHDAEN_LENT(areas), t, mark);
+}
+
+static inline uint64_t kophdaen_areas_back(const kophdaen_areas *areas, uint32_t t, uint32_t mark)
+{
+    return kophdaen_back(KOPHDAEN_LENT(areas), t, mark);
 }
 
 static inline uint64_t kophdaen_areas_lock_read(
@@ -317,6 +347,16 @@ static inline uint64_t kophdaen_areas_held_commit(const kophdaen_areas *areas, u
 static inline uint64_t kophdaen_areas_held_abort(const kophdaen_areas *areas, uint32_t t)
 {
     return kophdaen_held_abort(KOPHDAEN_LENT(areas), t);
+}
+
+static inline uint64_t kophdaen_areas_held_mark(const kophdaen_areas *areas, uint32_t t, uint32_t mark)
+{
+    return kophdaen_held_mark(KOPHDAEN_LENT(areas), t, mark);
+}
+
+static inline uint64_t kophdaen_areas_held_back(const kophdaen_areas *areas, uint32_t t, uint32_t mark)
+{
+    return kophdaen_held_back(KOPHDAEN_LENT(areas), t, mark);
 }
 
 static inline uint64_t kophdaen_areas_held_lock_read(

@@ -5,11 +5,11 @@
 
 #include "kophdaen.h"
 
-enum { PAGES = 2, RECORDS = 16, CALLS = 40 };
+enum { PAGES = 2, RECORDS = 16, CALLS = 48 };
 
 typedef struct store {
     uint32_t stored[PAGES * KOPHDAEN_PAGE_WORDS], copies[PAGES * KOPHDAEN_PAGE_WORDS], received[PAGES * KOPHDAEN_PAGE_WORDS];
-    uint32_t records[RECORDS * KOPHDAEN_RECORD_WORDS], counts[KOPHDAEN_COUNTS_WORDS], work[KOPHDAEN_WORK_WORDS(PAGES)];
+    uint32_t records[RECORDS * KOPHDAEN_RECORD_WORDS], counts[KOPHDAEN_COUNTS_WORDS], work[KOPHDAEN_WORK_WORDS(PAGES, RECORDS)];
     uint32_t buffer[KOPHDAEN_OBJECT_WORDS], chain[KOPHDAEN_CHAIN_WORDS];
     uint64_t codes[CALLS];
 } store;
@@ -33,7 +33,7 @@ static void expect(const char *what, int so)
     } while (0)
 
 /* An object is created under the root, with a word of its own, and is there after a reopening. Between, locks are refused, and
- * tell who has the page. */
+ * tell who has the page. At the end one more is created after a mark, and uncreated by going back. */
 static void work(const kophdaen_areas *a, store *s, int held)
 {
     uint64_t *code = s->codes;
@@ -72,6 +72,15 @@ static void work(const kophdaen_areas *a, store *s, int held)
     CALL(2, begin, a, 0);
     for (int page = 0; page <= PAGES; page++) CALL(0, reopen_step, a);
     CALL(0, begin, a, 0);
+    CALL(0, lock_write, a, 0, 0);
+    CALL(3, mark, a, 0, 4);
+    CALL(16, back, a, 0, 3);
+    CALL(0, mark, a, 0, 3);
+    CALL(0, create, a, 0, 3);
+    CALL(0, read, a, LENT(s->buffer), 0, 3);
+    CALL(0, back, a, 0, 3);
+    CALL(7, read, a, LENT(s->buffer), 0, 3);
+    expect("three records: begin, create, uncreate", s->counts[0] == 3 && s->records[2 * KOPHDAEN_RECORD_WORDS] == 6);
 }
 
 static store stores[2];

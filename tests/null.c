@@ -7,7 +7,7 @@
 enum { PAGES = 1, RECORDS = 4 };
 
 static uint32_t stored[PAGES * KOPHDAEN_PAGE_WORDS], copies[PAGES * KOPHDAEN_PAGE_WORDS], received[PAGES * KOPHDAEN_PAGE_WORDS];
-static uint32_t records[RECORDS * KOPHDAEN_RECORD_WORDS], counts[KOPHDAEN_COUNTS_WORDS], work[KOPHDAEN_WORK_WORDS(PAGES)];
+static uint32_t records[RECORDS * KOPHDAEN_RECORD_WORDS], counts[KOPHDAEN_COUNTS_WORDS], work[KOPHDAEN_WORK_WORDS(PAGES, RECORDS)];
 #define LENT(area) area, sizeof area / sizeof *area
 
 static int wrong;
@@ -29,11 +29,16 @@ int main(void)
     unlogged.log_words = 0;
     answers("format of nothing", kophdaen_areas_format(&none), 1);
     answers("begin on nothing", kophdaen_areas_begin(&none, 0), 1);
+    answers("mark on nothing", kophdaen_areas_mark(&none, 0, 0), 1);
+    answers("back on nothing", kophdaen_areas_back(&none, 0, 0), 1);
     answers("reopen of nothing", kophdaen_areas_reopen(&none), 1);
     answers("format", kophdaen_areas_format(&depot), 0);
     answers("begin without a log", kophdaen_areas_begin(&unlogged, 0), 1);
     answers("begin", kophdaen_areas_begin(&depot, 0), 0);
     answers("a lock for writing", kophdaen_areas_lock_write(&depot, 0, 0), 0);
+    answers("mark", kophdaen_areas_mark(&depot, 0, 0), 0);
+    answers("mark without a log", kophdaen_areas_mark(&unlogged, 0, 0), 1);
+    answers("back without a log", kophdaen_areas_back(&unlogged, 0, 0), 1);
     answers("read into no buffer", kophdaen_areas_read(&depot, NULL, 0, 0, 1), 1);
     answers("flush of no image", kophdaen_areas_flush(&depot, NULL, 0, 0, 0), 1);
     answers("chain into no buffer", kophdaen_areas_chain(&depot, NULL, 0, 1), 1);

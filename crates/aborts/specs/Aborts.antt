@@ -7,82 +7,66 @@ use lib.ListN.{length, getD, set}
 use native.Mathlib.Numerals.{add-one}
 use native.Mathlib.Omega.{arith}
 use borrow.Author.Tests.{lt-ltb, le-ltb}
-use Rattle.words.specs.Tests.{if, by-bool}
+use Rattle.words.specs.Tests.{if}
 use Rattle.pages.specs.Geometry.{pageWords}
 use Rattle.pages.specs.Objects.{copiedPage}
 use Rattle.records.specs.Records.{txnCount, recordAt, recorded, abortedOf}
 use Rattle.records.specs.Effects.{effect, undoing}
-use Rattle.records.specs.Changes.{changesLeft}
-use Rattle.record_laws.specs.RecordLaws.{begunIn, changes-le}
 use Rattle.areas.specs.declared.Refusal.the-variants.{OutOfRange, WrongState, LogFull}
 use Rattle.areas.specs.declared.Check.{Check}
 use Rattle.areas.specs.declared.Check.the-variants.{Accept, Refuse}
 use Rattle.areas.specs.declared.Answer.the-variants.{Done}
 use Rattle.areas.specs.Answers.{verdict, all-passed, need-holds, need-fails}
 use Rattle.areas.specs.Areas.{Areas, Out, areas, out, receivedCount, withCopies, withWork, appended}
-use Rattle.areas.specs.Layout.{HasTables}
 use Rattle.areas.specs.Tables.{isActive, canWrite}
 use Rattle.calls.specs.Room.{roomWithin}
 use Rattle.calls.specs.Transactions.{endedTables, changesOf, rolledBack, restored, abortTests, aborted}
 use Rattle.acceptance.specs.Entered.{Open}
 use Rattle.acceptance.specs.Transactions.{abort-facts}
-use Rattle.store_ops.specs.Logs.{counted, open-kept}
+use Rattle.store_ops.specs.Logs.{leftIn, counted, open-kept, open-undoing}
 use Rattle.aborts.specs.Rolling.{Undoable}
 
-few-left : (w g : List ℕ) (c t : ℕ) → length (changesLeft w g c t) ≤ c
-unfolding changesLeft
-few-left w g c t = by-bool (begunIn g t c) (λ e. rw e (changes-le g t c)) (λ e. rw e (omega arith))
-
 -- the check, of the lists that it reads
-pub abort-as : (s c r g k w : List ℕ) (t : ℕ) {x : Check} → x ≡ verdict (abortTests (areas [] [] [] g k w) t) → x ≡ verdict (abortTests (areas s c r g k w) t)
+pub abort-as : (s c r g k w : List ℕ) (n t : ℕ) {x : Check} → x ≡ verdict (abortTests (areas [] [] [] g k w) n t) → x ≡ verdict (abortTests (areas s c r g k w) n t)
 unfolding abortTests
-abort-as s c r g k w t e = e
+abort-as s c r g k w n t e = e
 
-module _ (s : Areas) (t : ℕ) where
-  pub abort-outside : txnCount ≤ t → Refuse OutOfRange ≡ verdict (abortTests s t)
+module _ (s : Areas) (n t : ℕ) where
+  pub abort-outside : txnCount ≤ t → Refuse OutOfRange ≡ verdict (abortTests s n t)
   unfolding abortTests
   abort-outside h = need-fails _ _ _ _ (le-ltb t txnCount h)
 
   module _ (h : t < txnCount) where
-    pub abort-inactive : isActive (s .work) t ≡ false → Refuse WrongState ≡ verdict (abortTests s t)
+    pub abort-inactive : isActive (s .work) t ≡ false → Refuse WrongState ≡ verdict (abortTests s n t)
     unfolding abortTests
     abort-inactive a = need-fails _ _ _ _ a ∙ need-holds _ _ _ _ (lt-ltb t txnCount h)
 
     -- left: what the code found
-    module _ (a : isActive (s .work) t ≡ true) {left : ℕ} (e : left ≡ length (changesOf s t)) where
-      pub abort-passes : roomWithin s (left + 1) ≡ true → Accept ≡ verdict (abortTests s t)
+    module _ (a : isActive (s .work) t ≡ true) {left : ℕ} (e : left ≡ length (changesOf s n t)) where
+      pub abort-passes : roomWithin s (left + 1) ≡ true → Accept ≡ verdict (abortTests s n t)
       unfolding abortTests
       abort-passes b = all-passed ∙ need-holds _ _ _ _ (ap (λ (x : ℕ). roomWithin s (x + 1)) (sym e) ∙ b) ∙ need-holds _ _ _ _ a ∙ need-holds _ _ _ _ (lt-ltb t txnCount h)
 
-      pub abort-full : roomWithin s (left + 1) ≡ false → Refuse LogFull ≡ verdict (abortTests s t)
+      pub abort-full : roomWithin s (left + 1) ≡ false → Refuse LogFull ≡ verdict (abortTests s n t)
       unfolding abortTests
       abort-full b = need-fails _ _ _ _ (ap (λ (x : ℕ). roomWithin s (x + 1)) (sym e) ∙ b) ∙ need-holds _ _ _ _ a ∙ need-holds _ _ _ _ (lt-ltb t txnCount h)
 
-pub few-found : (w g : List ℕ) (c t : ℕ) {left : ℕ} → left ≡ length (changesLeft w g c t) → left ≤ c
-few-found w g c t e = let h = few-left w g c t in omega arith
-
--- which changes are left is not asked of the tables
-left-any : (w g : List ℕ) (c t : ℕ) → changesLeft w g c t ≡ changesLeft [] g c t
-unfolding changesLeft
-left-any w g c t = refl
-
 -- what the code that makes the change needs of an abort whose tests passed
-pub abort-ready : (s : Areas) (n t : ℕ) → Open s n → verdict (abortTests s t) ≡ Accept →
-    Undoable (s .received) (s .log) (s .counts) t
-    × (HasTables (s .work) n × (0 < n) × (pageWords * n ≤ length (s .received)) × (pageWords * n ≤ length (s .copies)) × (t < 32))
+pub abort-ready : (s : Areas) (n t : ℕ) → Open s n → verdict (abortTests s n t) ≡ Accept →
+    Undoable (s .received) (s .log) (s .counts) (s .work) n t × ((0 < n) × (pageWords * n ≤ length (s .received)) × (pageWords * n ≤ length (s .copies)))
 abort-ready s n t o h =
-    let f = abort-facts s t h in
+    let f = abort-facts s n t h in
     let z = o .sized in
-    let e : length (changesLeft [] (s .log) (receivedCount s) t) ≡ length (changesOf s t) = ap length (sym (left-any (s .work) (s .log) (receivedCount s) t)) in
     let r = f .room in (
       record {
         kept = open-kept s n o;
+        words = open-undoing s n o;
         sound = (let m : length (s .received) / pageWords ≡ n = omega arith in rw m (o .ranged .records-sound));
         txn = f .txn;
         room = omega arith;
         top = z .log-top;
       },
-      (z .tables, omega arith, omega arith, omega arith, omega arith),
+      (omega arith, omega arith, omega arith),
     )
 
 -- one more page restored
@@ -110,10 +94,10 @@ endedAs s c w n t b = out (Done (receivedCount b)) s (restored w n t (b .receive
 -- the outcome
 module _ (s c a g k w : List ℕ) (n t x : ℕ) (c′ a′ g′ k′ w′ : List ℕ) where
   pub aborted-out :
-      (areas [] [] a′ g′ k′ [] ≡ appended (rolledBack g (changesLeft [] g (getD k 0 0) t) (areas [] [] a g k [])) (abortedOf t)) × (x ≡ getD k′ 0 0) →
+      (areas [] [] a′ g′ k′ [] ≡ appended (rolledBack g (leftIn g k w n t) (areas [] [] a g k [])) (abortedOf t)) × (x ≡ getD k′ 0 0) →
       c′ ≡ restored w n t a′ c n → w′ ≡ endedTables w n t → out (Done x) s c′ a′ g′ k′ w′ ≡ counted (aborted (areas s c a g k w) n t)
   unfolding aborted appended
   aborted-out e hc hw =
       rw (e .1, hc, hw) (ap (endedAs s c w n t) (e .0))
       ∙ ap (λ (z : Areas). counted (endedFrom c w n t z))
-      (sym (ap (λ (l : List ℕ). rolledBack g l (areas s c a g k w)) (left-any w g (getD k 0 0) t) ∙ rolled-other g (changesLeft [] g (getD k 0 0) t) s c a g k w))
+      (sym (rolled-other g (leftIn g k w n t) s c a g k w))

@@ -1,12 +1,12 @@
 ghost use mathlib.Core.Path.{_≡_};
 ghost use mathlib.Core.List.{List, []};
 ghost use Prim.Native.Nat.{ℕ, _*_, _<_, _≤_};
-ghost use lib.ListN.{length};
+ghost use lib.ListN.{length, getD};
 ghost use Rattle.pages.specs.Geometry.{pageWords};
 ghost use Rattle.areas.specs.declared.Answer.the-variants.{Done};
 ghost use Rattle.areas.specs.Answers.{verdict};
 ghost use Rattle.areas.specs.Areas.{areas, out};
-ghost use Rattle.areas.specs.Layout.{HasTables, activeAt};
+ghost use Rattle.areas.specs.Layout.{HasUndoing};
 ghost use Rattle.calls.specs.Transactions.{abortTests, aborted};
 ghost use Rattle.store_ops.specs.Logs.{Kept, counted};
 ghost use Rattle.aborts.specs.Rolling.{Undoable};
@@ -18,10 +18,10 @@ use areas::layout;
 use records::TXNS;
 
 // Refusals 3, 4 and 11 of an abort.
-pub fn abort_check(log: &[u32], counts: &[u32], work: &[u32], t: u32) -> Check
+pub fn abort_check(log: &[u32], counts: &[u32], work: &[u32], n: usize, t: u32) -> Check
     requires { ⌜ Kept (now log) (now counts) ⌝ }
-    requires { ⌜ activeAt < length (now work) ⌝ }
-    ensures { λ r. ⌜ r ≡ verdict (abortTests (areas [] [] [] (now (log .entry)) (now (counts .entry)) (now (work .entry))) t) ⌝ }
+    requires { ⌜ HasUndoing (now work) n (getD (now counts) 0 0) ⌝ }
+    ensures { λ r. ⌜ r ≡ verdict (abortTests (areas [] [] [] (now (log .entry)) (now (counts .entry)) (now (work .entry))) n t) ⌝ }
 {
     if TXNS <= t {
         return Check::Refuse(Refusal::OutOfRange);
@@ -29,7 +29,7 @@ pub fn abort_check(log: &[u32], counts: &[u32], work: &[u32], t: u32) -> Check
     if !store_ops::has(work, layout::ACTIVE_AT, t) {
         return Check::Refuse(Refusal::WrongState);
     }
-    let left = record_ops::changes_left(log, counts[layout::RECEIVED] as usize, t as usize);
+    let left = store_ops::changes_left(log, counts, work, n, t);
     if transactions::room_within(log, counts, left as usize + 1) {
         Check::Accept
     } else {
@@ -47,11 +47,11 @@ pub fn abort_apply(
     n: usize,
     t: u32,
 ) -> u32
-    requires { ⌜ Undoable (now received) (now log) (now counts) t ⌝ }
-    requires { ⌜ HasTables (now work) n × (0 < n) × (pageWords * n ≤ length (now received)) × (pageWords * n ≤ length (now copies)) × (t < 32) ⌝ }
+    requires { ⌜ Undoable (now received) (now log) (now counts) (now work) n t ⌝ }
+    requires { ⌜ (0 < n) × (pageWords * n ≤ length (now received)) × (pageWords * n ≤ length (now copies)) ⌝ }
     ensures { λ x. ⌜ ((s : List ℕ) → out (Done x) s (now (copies .exit)) (now (received .exit)) (now (log .exit)) (now (counts .exit)) (now (work .exit)) ≡ counted (aborted (areas s (now (copies .entry)) (now (received .entry)) (now (log .entry)) (now (counts .entry)) (now (work .entry))) n t)) ⌝ }
 {
-    let c = abort_log(received, log, counts, t);
+    let c = abort_log(received, log, counts, work, n, t);
     restore(work, received, copies, n, t);
     transactions::end_tables(work, n, t);
     c

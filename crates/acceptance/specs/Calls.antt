@@ -13,7 +13,7 @@ use Rattle.calls.specs.Formatting.{formatted, formatTests, callFormat}
 use Rattle.calls.specs.Objects.{callRead, ifAccepted, bufferAfter}
 use Rattle.calls.specs.Chains.{callChain, chainAfter}
 use Rattle.calls.specs.Calls.{Call, perform}
-use Rattle.calls.specs.Calls.Call.{begin, commit, abort, lockRead, lockWrite, read, create, setWord, flush, force, store, empty, pass, step, reopen, restep, look}
+use Rattle.calls.specs.Calls.Call.{begin, commit, abort, lockRead, lockWrite, read, create, setWord, flush, force, store, empty, pass, step, reopen, restep, mark, back, look}
 use Rattle.acceptance.specs.Ran.{Keeps, done-keeps, checked-keeps}
 use Rattle.acceptance.specs.Transactions.{begin-outcome, commit-outcome, abort-outcome}
 use Rattle.acceptance.specs.Locks.{lock-read-outcome, lock-write-outcome}
@@ -21,6 +21,7 @@ use Rattle.acceptance.specs.Objects.{read-outcome, create-outcome, set-o
 use Rattle.acceptance.specs.Stability.{force-outcome, store-outcome, empty-outcome}
 use Rattle.acceptance.specs.Pass.{pass-outcome, step-outcome}
 use Rattle.acceptance.specs.Reopening.{reopen-keeps, restep-outcome}
+use Rattle.acceptance.specs.Marks.{mark-outcome, back-outcome}
 use Rattle.acceptance.specs.Looks.{look-outcome}
 
 -- accepted (perform s c .answer) ≡ false → perform s c .after ≡ s
@@ -42,6 +43,8 @@ refused-keeps s pass = pass-outcome s .keeps
 refused-keeps s step = step-outcome s .keeps
 refused-keeps s reopen = reopen-keeps s
 refused-keeps s restep = restep-outcome s .keeps
+refused-keeps s (mark t m) = mark-outcome s t m .keeps
+refused-keeps s (back t m) = back-outcome s t m .keeps
 refused-keeps s (look q) = look-outcome s q .keeps
 
 pub format-keeps : (s : Areas) → Keeps s (callFormat s)

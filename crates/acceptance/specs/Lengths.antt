@@ -10,7 +10,7 @@ use Rattle.words.specs.Tests.{and-split}
 use Rattle.pages.specs.Geometry.{pageWords, maxPages}
 use Rattle.records.specs.Records.{recordWords, maxRecords}
 use Rattle.areas.specs.Areas.{Areas, countWords}
-use Rattle.areas.specs.Layout.{HasTables, workWords}
+use Rattle.areas.specs.Layout.{HasTables, HasUndoing, workWords}
 use Rattle.areas.specs.Ranges.{pagesIn, recordsIn, whole, lengthsFit, fit}
 use Rattle.areas.specs.Entry.{pages, records}
 
@@ -77,6 +77,7 @@ pub record Sized (s : Areas) (n : ℕ) : Type 0 where
   pub counts-len : length (s .counts) ≡ countWords
   pub work-len : length (s .work) ≡ workWords n (records s)
   pub tables : HasTables (s .work) n
+  pub undoing : HasUndoing (s .work) n (records s)
 
 pub sized : (s : Areas) (n : ℕ) → fit s ≡ true → pages s ≡ n → Sized s n
 sized s n h e =
@@ -94,4 +95,5 @@ sized s n h e =
       counts-len = l .counts-len;
       work-len = omega arith;
       tables = (omega arith, omega arith);
+      undoing = (omega arith, omega arith);
     }

@@ -10,5 +10,6 @@ pub mod Objects
 pub mod Stability
 pub mod Pass
 pub mod Reopening
+pub mod Marks
 pub mod Looks
 pub mod Calls

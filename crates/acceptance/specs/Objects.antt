@@ -72,7 +72,7 @@ pub record CreateFacts (s : Areas) (n t o : ℕ) : Type 0 where
   pub active : isActive (s .work) t ≡ true
   pub lock : canWrite (s .work) n t (pageOf o) ≡ true
   pub free : occupied (s .received) o ≡ false
-  pub room : Room s changeRoom
+  pub room : Room s n changeRoom
 
 pub create-facts : (s : Areas) (n t o : ℕ) → verdict (createTests s n t o) ≡ Accept → CreateFacts s n t o
 unfolding createTests
@@ -84,7 +84,7 @@ create-facts s n t o h =
       active = passed _ 1 h;
       lock = passed _ 2 h;
       free = not-true _ (passed _ 3 h);
-      room = room-facts s changeRoom (passed _ 4 h);
+      room = room-facts s n changeRoom (passed _ 4 h);
     }
 
 pub create-outcome : (s : Areas) (t o : ℕ) →
@@ -101,7 +101,7 @@ pub record SetFacts (s : Areas) (n t o f v : ℕ) : Type 0 where
   pub lock : canWrite (s .work) n t (pageOf o) ≡ true
   pub known : knows (s .work) n t o ≡ true
   pub may : isRef (s .received) o f ≡ true → (v ≡ 0) ⊎ (knows (s .work) n t v ≡ true)
-  pub room : Room s changeRoom
+  pub room : Room s n changeRoom
 
 may-cases : (ref : Bool) (v : ℕ) (known : Bool) → not ref || eqb v 0 || known ≡ true → ref ≡ true → (v ≡ 0) ⊎ (known ≡ true)
 may-cases true v known h e = elim (or-cases (eqb v 0) known h) [ inl z ↦ inl (eqb-true v 0 z) | inr k ↦ inr k ]
@@ -121,7 +121,7 @@ set-facts s n t o f v h =
       lock = passed _ 2 h;
       known = k .0;
       may = may-cases (isRef (s .received) o f) v (knows (s .work) n t v) (k .1);
-      room = room-facts s changeRoom (passed _ 4 h);
+      room = room-facts s n changeRoom (passed _ 4 h);
     }
 
 pub set-outcome : (s : Areas) (t o f v : ℕ) →

@@ -69,24 +69,24 @@ sweeping s n =
     done (slotsSet m) (withWork a (advanced (s .work) n p))
 
 -- 'a sweep 1', 'if there are any' slots to free
-pub record SweepFacts (s : Areas) (m : ℕ) : Type 0 where
-  pub room : (m ≡ 0 → ⊥) → Room s sweepRoom
+pub record SweepFacts (s : Areas) (n m : ℕ) : Type 0 where
+  pub room : (m ≡ 0 → ⊥) → Room s n sweepRoom
 
-sweep-room : (s : Areas) (m : ℕ) → (eqb m 0 ≡ true) ⊎ (roomBeyond s sweepRoom ≡ true) → (m ≡ 0 → ⊥) → Room s sweepRoom
-sweep-room s m (inl z) no0 = absurd (no0 (eqb-true m 0 z))
-sweep-room s m (inr r) no0 = room-facts s sweepRoom r
+sweep-room : (s : Areas) (n m : ℕ) → (eqb m 0 ≡ true) ⊎ (roomBeyond s n sweepRoom ≡ true) → (m ≡ 0 → ⊥) → Room s n sweepRoom
+sweep-room s n m (inl z) no0 = absurd (no0 (eqb-true m 0 z))
+sweep-room s n m (inr r) no0 = room-facts s n sweepRoom r
 
-pub sweep-facts : (s : Areas) (m : ℕ) → verdict (sweepTests s m) ≡ Accept → SweepFacts s m
+pub sweep-facts : (s : Areas) (n m : ℕ) → verdict (sweepTests s n m) ≡ Accept → SweepFacts s n m
 unfolding sweepTests
-sweep-facts s m h = record { room = sweep-room s m (or-cases (eqb m 0) (roomBeyond s sweepRoom) (passed _ 0 h)) }
+sweep-facts s n m h = record { room = sweep-room s n m (or-cases (eqb m 0) (roomBeyond s n sweepRoom) (passed _ 0 h)) }
 
-pub swept-ran : (s : Areas) (n : ℕ) → accepted (swept s n .answer) ≡ true → Passed (verdict (sweepTests s (sweepMapOf s n))) (swept s n) (sweeping s n)
+pub swept-ran : (s : Areas) (n : ℕ) → accepted (swept s n .answer) ≡ true → Passed (verdict (sweepTests s n (sweepMapOf s n))) (swept s n) (sweeping s n)
 unfolding swept
-swept-ran s n h = checked-ran (verdict (sweepTests s (sweepMapOf s n))) s (sweeping s n) h
+swept-ran s n h = checked-ran (verdict (sweepTests s n (sweepMapOf s n))) s (sweeping s n) h
 
 pub swept-keeps : (s : Areas) (n : ℕ) → Keeps s (swept s n)
 unfolding swept
-swept-keeps s n = checked-keeps (verdict (sweepTests s (sweepMapOf s n))) s (sweeping s n) (λ e. clash refl e)
+swept-keeps s n = checked-keeps (verdict (sweepTests s n (sweepMapOf s n))) s (sweeping s n) (λ e. clash refl e)
 
 -- 'One pass step advances the pass record by one object or one page.'
 abbrev pub stepped : Areas → ℕ → Out
@@ -100,7 +100,7 @@ step-outcome s = outcome _ _ _ _ (stepped s) (λ n. if-keeps s (isMarking (s .wo
 pub data StepWay (s : Areas) (n : ℕ) (o : Out) : Type 0 where
   scans : isMarking (s .work) ≡ true → leb (lowestGrey (s .work) n) (objectCount n) ≡ true → o ≡ scanning s n → StepWay s n o
   turns : isMarking (s .work) ≡ true → leb (lowestGrey (s .work) n) (objectCount n) ≡ false → o ≡ turning s n → StepWay s n o
-  sweeps : isMarking (s .work) ≡ false → verdict (sweepTests s (sweepMapOf s n)) ≡ Accept → o ≡ sweeping s n → StepWay s n o
+  sweeps : isMarking (s .work) ≡ false → verdict (sweepTests s n (sweepMapOf s n)) ≡ Accept → o ≡ sweeping s n → StepWay s n o
 
 step-marks : (s : Areas) (n : ℕ) (o : Out) → isMarking (s .work) ≡ true → o ≡ marked s n → StepWay s n o
 step-marks s n o e h = by-bool (leb (lowestGrey (s .work) n) (objectCount n)) (λ g. scans e g (h ∙ marked-scans s n g)) (λ g. turns e g (h ∙ marked-turns s n g))

@@ -60,7 +60,7 @@ restep-facts s h = record { running = eqb-true _ _ (passed _ 0 h) }
 
 -- the areas after a step: of the next page, or of the log
 abbrev pub restepped : Areas → ℕ → Areas
-restepped s n = let p = at (s .work) reopeningPageAt in if (ltb p n) (pageStored s p) (reopeningOver s)
+restepped s n = let p = at (s .work) reopeningPageAt in if (ltb p n) (pageStored s p) (reopeningOver s n)
 
 pub restep-outcome : (s : Areas) →
     Outcome false true s (λ n. restepTests s) (callRestep s) (λ n. done (at (s .work) reopeningPageAt) (restepped s n))

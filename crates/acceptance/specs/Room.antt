@@ -6,14 +6,14 @@ use borrow.Author.Tests.{leb-true}
 use Rattle.records.specs.Changes.{reserved}
 use Rattle.areas.specs.Areas.{Areas, receivedCount}
 use Rattle.areas.specs.Layout.{activeAt}
-use Rattle.areas.specs.Tables.{at}
+use Rattle.areas.specs.Tables.{at, undoes}
 use Rattle.areas.specs.Entry.{records}
 use Rattle.calls.specs.Room.{roomBeyond}
 
--- 'Begin, create and set need 2 beyond used and reserved, a sweep 1'
-abbrev pub Room : Areas → ℕ → Type 0
-Room s k = receivedCount s + reserved (s .work) (s .log) (receivedCount s) (at (s .work) activeAt) + k ≤ records s
+-- 'Begin, create and set need 2 beyond used and reserved, a sweep 1', in a store of n pages
+abbrev pub Room : Areas → ℕ → ℕ → Type 0
+Room s n k = receivedCount s + reserved (undoes (s .work) n) (s .log) (receivedCount s) (at (s .work) activeAt) + k ≤ records s
 
-pub room-facts : (s : Areas) (k : ℕ) → roomBeyond s k ≡ true → Room s k
+pub room-facts : (s : Areas) (n k : ℕ) → roomBeyond s n k ≡ true → Room s n k
 unfolding roomBeyond
-room-facts s k h = leb-true _ _ h
+room-facts s n k h = leb-true _ _ h

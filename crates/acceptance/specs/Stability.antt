@@ -55,6 +55,6 @@ empty-facts s h =
     let a = and-split (eqb (at (s .work) activeAt) 0) (eqb (stableCount s) (receivedCount s)) (b .0) in
     record { none-active = eqb-true _ _ (a .0); all-stable = eqb-true _ _ (a .1); all-stored = b .1 }
 
-pub empty-outcome : (s : Areas) → Outcome true true s (λ n. emptyTests s) (callEmpty s) (λ n. done 0 (emptied s))
+pub empty-outcome : (s : Areas) → Outcome true true s (λ n. emptyTests s) (callEmpty s) (λ n. done 0 (emptied s n))
 unfolding callEmpty
-empty-outcome s = outcome-done _ _ _ _ (λ n. 0) (λ n. emptied s)
+empty-outcome s = outcome-done _ _ _ _ (λ n. 0) (λ n. emptied s n)

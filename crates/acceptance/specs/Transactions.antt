@@ -18,18 +18,18 @@ use Rattle.calls.specs.Transactions.{allFlushed, changesOf, beginTests, begun, 
 use Rattle.acceptance.specs.Room.{Room, room-facts}
 use Rattle.acceptance.specs.Ran.{Outcome, outcome-done}
 
-pub record BeginFacts (s : Areas) (t : ℕ) : Type 0 where
+pub record BeginFacts (s : Areas) (n t : ℕ) : Type 0 where
   pub txn : t < txnCount
   pub inactive : isActive (s .work) t ≡ false
-  pub room : Room s changeRoom
+  pub room : Room s n changeRoom
 
-pub begin-facts : (s : Areas) (t : ℕ) → verdict (beginTests s t) ≡ Accept → BeginFacts s t
+pub begin-facts : (s : Areas) (n t : ℕ) → verdict (beginTests s n t) ≡ Accept → BeginFacts s n t
 unfolding beginTests
-begin-facts s t h =
-    record { txn = ltb-true _ _ (passed _ 0 h); inactive = not-true _ (passed _ 1 h); room = room-facts s changeRoom (passed _ 2 h) }
+begin-facts s n t h =
+    record { txn = ltb-true _ _ (passed _ 0 h); inactive = not-true _ (passed _ 1 h); room = room-facts s n changeRoom (passed _ 2 h) }
 
 pub begin-outcome : (s : Areas) (t : ℕ) →
-    Outcome true true s (λ n. beginTests s t) (callBegin s t) (λ n. done (receivedCount (begun s n t)) (begun s n t))
+    Outcome true true s (λ n. beginTests s n t) (callBegin s t) (λ n. done (receivedCount (begun s n t)) (begun s n t))
 unfolding callBegin
 begin-outcome s t = outcome-done _ _ _ _ _ _
 
@@ -53,17 +53,17 @@ pub commit-outcome : (s : Areas) (t : ℕ) →
 unfolding callCommit
 commit-outcome s t = outcome-done _ _ _ _ _ _
 
-pub record AbortFacts (s : Areas) (t : ℕ) : Type 0 where
+pub record AbortFacts (s : Areas) (n t : ℕ) : Type 0 where
   pub txn : t < txnCount
   pub active : isActive (s .work) t ≡ true
-  pub room : receivedCount s + (length (changesOf s t) + 1) ≤ records s
+  pub room : receivedCount s + (length (changesOf s n t) + 1) ≤ records s
 
-pub abort-facts : (s : Areas) (t : ℕ) → verdict (abortTests s t) ≡ Accept → AbortFacts s t
+pub abort-facts : (s : Areas) (n t : ℕ) → verdict (abortTests s n t) ≡ Accept → AbortFacts s n t
 unfolding abortTests
-abort-facts s t h =
+abort-facts s n t h =
     record { txn = ltb-true _ _ (passed _ 0 h); active = passed _ 1 h; room = leb-true _ _ (passed _ 2 h) }
 
 pub abort-outcome : (s : Areas) (t : ℕ) →
-    Outcome true true s (λ n. abortTests s t) (callAbort s t) (λ n. done (receivedCount (aborted s n t)) (aborted s n t))
+    Outcome true true s (λ n. abortTests s n t) (callAbort s t) (λ n. done (receivedCount (aborted s n t)) (aborted s n t))
 unfolding callAbort
 abort-outcome s t = outcome-done _ _ _ _ _ _

@@ -15,7 +15,7 @@ use Rattle.pages.specs.Soundness.{areaSound}
 use Rattle.records.specs.Records.{txnCount, maskTop}
 use Rattle.records.specs.Soundness.{recordsSound}
 use Rattle.areas.specs.Areas.{Areas, receivedCount, stableCount}
-use Rattle.areas.specs.Layout.{Row, reopeningAt, reopeningPageAt, phaseAt, passPageAt, stepsAt, activeAt, readersAt, writersAt, unflushedAt, knownAt, prunedAt, createdAt, colourAt, finished, flaggedTop, stepsTop, colourTop}
+use Rattle.areas.specs.Layout.{Row, reopeningAt, reopeningPageAt, phaseAt, passPageAt, stepsAt, activeAt, readersAt, writersAt, unflushedAt, knownAt, prunedAt, createdAt, colourAt, markCount, markedAt, orderAt, undoingAt, finished, flaggedTop, stepsTop, colourTop, changesTop, orderTop, undoingTop}
 use Rattle.areas.specs.Tables.{at}
 use Rattle.areas.specs.Ranges.{rowsInRange, workInRange, countsInRange, inRange}
 use Rattle.areas.specs.Entry.{records}
@@ -29,7 +29,7 @@ pub up-to-within : (w : List ℕ) (a n top i : ℕ) → upTo w a n top ≡ true 
 up-to-within w a n top i h l u = subst (λ (j : ℕ). at w j ≤ top) (omega arith) (up-to-at w a n top (i - a) h (omega arith))
 
 -- one field for each row of the layout
-pub record Working (w : List ℕ) (n : ℕ) : Type 0 where
+pub record Working (w : List ℕ) (n l : ℕ) : Type 0 where
   pub reopening-word : at w reopeningAt ≤ finished
   pub reopening-page : at w reopeningPageAt ≤ n
   pub phase : at w phaseAt ≤ 2
@@ -43,6 +43,9 @@ pub record Working (w : List ℕ) (n : ℕ) : Type 0 where
   pub pruned : (o : ℕ) → 1 ≤ o → o ≤ objectCount n → at w (prunedAt n o) < 2 ^ (txnCount + 1)
   pub created : (o : ℕ) → 1 ≤ o → o ≤ objectCount n → at w (createdAt n o) < 2 ^ (txnCount + 1)
   pub colours : (o : ℕ) → 1 ≤ o → o ≤ objectCount n → at w (colourAt n o) ≤ colourTop
+  pub marked : (t m : ℕ) → t < txnCount → m < markCount → at w (markedAt n t m) ≤ changesTop l
+  pub order : (t m : ℕ) → t < txnCount → m < markCount → at w (orderAt n t m) ≤ orderTop l
+  pub undoing : (i : ℕ) → i < l → at w (undoingAt n i) ≤ undoingTop l
 
 -- a row whose words are in range, and the rows after it
 row-facts : (w : List ℕ) (r : Row) (rs : List Row) → rowsInRange w (r ∷ rs) ≡ true →
@@ -54,7 +57,7 @@ row-facts w r rs h = let p = and-split (upTo w (r .first) (r .many) (r .top)) (r
 below : (a top : ℕ) → a ≤ top → a < suc top
 below a top h = omega arith
 
-pub in-rows : (w : List ℕ) (n l : ℕ) → 1 ≤ n → workInRange w n l ≡ true → Working w n
+pub in-rows : (w : List ℕ) (n l : ℕ) → 1 ≤ n → workInRange w n l ≡ true → Working w n l
 unfolding workInRange
 in-rows w n l low h =
     let r1 = row-facts w _ _ h in
@@ -70,6 +73,9 @@ in-rows w n l low h =
     let r11 = row-facts w _ _ (r10 .1) in
     let r12 = row-facts w _ _ (r11 .1) in
     let r13 = row-facts w _ _ (r12 .1) in
+    let r14 = row-facts w _ _ (r13 .1) in
+    let r15 = row-facts w _ _ (r14 .1) in
+    let r16 = row-facts w _ _ (r15 .1) in
     record {
       reopening-word = r1 .0 reopeningAt (omega arith) (omega arith);
       reopening-page = r2 .0 reopeningPageAt (omega arith) (omega arith);
@@ -84,6 +90,9 @@ in-rows w n l low h =
       pruned = λ o a b. below _ flaggedTop (r11 .0 (prunedAt n o) (omega arith) (omega arith));
       created = λ o a b. below _ flaggedTop (r12 .0 (createdAt n o) (omega arith) (omega arith));
       colours = λ o a b. r13 .0 (colourAt n o) (omega arith) (omega arith);
+      marked = λ t m a b. r14 .0 (markedAt n t m) (omega arith) (omega arith);
+      order = λ t m a b. r15 .0 (orderAt n t m) (omega arith) (omega arith);
+      undoing = λ i a. r16 .0 (undoingAt n i) (omega arith) (omega arith);
     }
 
 -- the counts, for a log of l records
@@ -95,7 +104,7 @@ counts-facts k l h = let p = and-split _ _ h in (leb-true _ _ (p .1), leb-true _
 pub record Ranged (s : Areas) (n : ℕ) : Type 0 where
   pub stable-le : stableCount s ≤ receivedCount s
   pub received-le : receivedCount s ≤ records s
-  pub working : Working (s .work) n
+  pub working : Working (s .work) n (records s)
   pub received-sound : areaSound (s .received) n ≡ true
   pub copies-sound : areaSound (s .copies) n ≡ true
   pub records-sound : recordsSound n (s .log) (receivedCount s) ≡ true

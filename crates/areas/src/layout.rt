@@ -1,8 +1,9 @@
 // Where the working words stand, in a store of n pages: what specs/Layout.antt says, for code.
 ghost use mathlib.Core.Path.{_≡_};
-ghost use Prim.Native.Nat.{_^_, _<_, _≤_};
+ghost use Prim.Native.Nat.{_*_, _^_, _<_, _≤_};
 ghost use Rattle.pages.specs.Geometry.{maxPages, objectCount};
-ghost use Rattle.areas.specs.Layout.{readersAt, writersAt, unflushedAt, knownAt, prunedAt, createdAt, colourAt, workWords};
+ghost use Rattle.records.specs.Records.{txnCount, maxRecords};
+ghost use Rattle.areas.specs.Layout.{readersAt, writersAt, unflushedAt, knownAt, prunedAt, createdAt, colourAt, markCount, markedAt, orderAt, undoingAt, workWords};
 
 // The received count, then the stable count.
 pub const COUNT_WORDS: usize = 2;
@@ -15,6 +16,11 @@ pub const STABLE: usize = 1;
 pub const SINGLE_WORDS: usize = 6;
 
 pub const WORDS_PER_PAGE: usize = 67;
+
+// The marks of a transaction, and of all.
+pub const MARKS: u32 = 4;
+
+pub const MARK_WORDS: usize = 64;
 
 // One word each.
 pub const REOPENING_AT: usize = 0;
@@ -104,10 +110,33 @@ pub fn colour_at(n: usize, o: usize) -> usize
     SINGLE_WORDS + 51 * n + (o - 1)
 }
 
+// The words of t's mark m; m may be the number of marks, where the next transaction's begin.
+pub fn marked_at(n: usize, t: usize, m: usize) -> usize
+    requires { ⌜ (n ≤ maxPages) × (t < txnCount) × (m ≤ markCount) ⌝ }
+    ensures { λ r. ⌜ r ≡ markedAt n t m ⌝ }
+{
+    SINGLE_WORDS + WORDS_PER_PAGE * n + (MARKS as usize * t + m)
+}
+
+pub fn order_at(n: usize, t: usize, m: usize) -> usize
+    requires { ⌜ (n ≤ maxPages) × (t < txnCount) × (m ≤ markCount) ⌝ }
+    ensures { λ r. ⌜ r ≡ orderAt n t m ⌝ }
+{
+    SINGLE_WORDS + WORDS_PER_PAGE * n + MARK_WORDS + (MARKS as usize * t + m)
+}
+
+// The word of log record i.
+pub fn undoing_at(n: usize, i: usize) -> usize
+    requires { ⌜ (n ≤ maxPages) × (i ≤ maxRecords) ⌝ }
+    ensures { λ r. ⌜ r ≡ undoingAt n i ⌝ }
+{
+    SINGLE_WORDS + WORDS_PER_PAGE * n + 2 * MARK_WORDS + i
+}
+
 // All working words of a store of n pages and l records, also of more than a store has: as many as fit into an address space.
 pub fn work_words(n: usize, l: usize) -> usize
     requires { ⌜ (n < 2 ^ 57) × (l < 2 ^ 62) ⌝ }
     ensures { λ r. ⌜ r ≡ workWords n l ⌝ }
 {
-    SINGLE_WORDS + WORDS_PER_PAGE * n
+    SINGLE_WORDS + WORDS_PER_PAGE * n + 2 * MARK_WORDS + l
 }

@@ -25,7 +25,10 @@ const LOG_AREA: usize = records::RECORD_WORDS * RECORDS;
 
 const COUNTS: usize = layout::COUNT_WORDS;
 
-const WORK_AREA: usize = layout::SINGLE_WORDS + layout::WORDS_PER_PAGE * PAGES;
+const WORK_AREA: usize = layout::SINGLE_WORDS
+    + layout::WORDS_PER_PAGE * PAGES
+    + 2 * layout::MARK_WORDS
+    + RECORDS;
 
 // The bytes that are read at a time.
 const CHUNK: usize = 1024;

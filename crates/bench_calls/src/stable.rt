@@ -15,7 +15,7 @@ pub fn stability_call(
     received: &[u32],
     log: &[u32],
     counts: &mut [u32],
-    work: &[u32],
+    work: &mut [u32],
     c: StabilityCall,
 ) -> Answer
     ensures { λ r. ⌜ out r (now (stored .exit)) (now (copies .exit)) (now (received .exit)) (now (log .exit)) (now (counts .exit)) (now (work .exit)) ≡ stabilityCall (areas (now (stored .entry)) (now (copies .entry)) (now (received .entry)) (now (log .entry)) (now (counts .entry)) (now (work .entry))) c ⌝ }

@@ -26,11 +26,13 @@ pub record Book : Type 0 where
   pub running : ℕ → ℕ
   -- by transaction, the objects that it knows
   pub known : ℕ → ℕ → Bool
+  -- document 02, L3: by transaction and mark, how many of its creates and sets were left where it last set the mark
+  pub marked : ℕ → ℕ → ℕ
   pub stage : Stage
 
 -- 'It starts from the formatted pages': from these, with no line
 abbrev pub blank : List ℕ → Book
-blank a = record { origin = a; lines = []; stable = 0; begun = 0; running = λ t. 0; known = λ t o. false; stage = opened }
+blank a = record { origin = a; lines = []; stable = 0; begun = 0; running = λ t. 0; known = λ t o. false; marked = λ t m. 0; stage = opened }
 
 -- own transaction i runs
 unfoldable pub runs : Book → ℕ → Bool
@@ -66,4 +68,4 @@ surviving b = let kept = drop (length (b .lines) - b .stable) (b .lines) in filt
 
 -- 'A cut or accepted reopen stops all transactions and drops the lines ..'
 abbrev pub stopped : Stage → Book → Book
-stopped g b = record { origin = b .origin; lines = surviving b; stable = length (surviving b); begun = b .begun; running = λ t. 0; known = λ t o. false; stage = g }
+stopped g b = record { origin = b .origin; lines = surviving b; stable = length (surviving b); begun = b .begun; running = λ t. 0; known = λ t o. false; marked = λ t m. 0; stage = g }

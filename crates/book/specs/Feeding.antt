@@ -1,6 +1,6 @@
 -- Document 01, 'The book': 'It .. is fed the calls, whether each was accepted, the cuts, and the slots that each pass step clears in the
 -- received maps.' Nothing else of the store is looked at. Assumes nothing.
-use Prim.Native.Nat.{ℕ, zero, suc, _+_}
+use Prim.Native.Nat.{ℕ, zero, suc, _+_, _-_}
 use mathlib.Core.Bool.{Bool, false, not, _&&_, _||_}
 use mathlib.Core.List.{List, _∷_}
 use lib.Dec.{eqb, ltb}
@@ -11,8 +11,8 @@ use Rattle.pages.specs.Objects.{taken, wordOf}
 use Rattle.reach.specs.Reaching.{refersTo}
 use Rattle.records.specs.declared.Record.{Record}
 use Rattle.records.specs.Records.{beginOf, createOf, setOf, commitOf, abortedOf, sweepOf}
-use Rattle.calls.specs.Calls.{Call, begin, commit, abort, lockRead, lockWrite, read, create, setWord, flush, force, store, empty, pass, step, reopen, restep, look}
-use Rattle.book.specs.Lines.{Line, line, left, undoneLines}
+use Rattle.calls.specs.Calls.{Call, begin, commit, abort, lockRead, lockWrite, read, create, setWord, flush, force, store, empty, pass, step, reopen, restep, mark, back, look}
+use Rattle.book.specs.Lines.{Line, line, left, struckNewest, undoingNewest, undoneLines, newestCreates}
 use Rattle.book.specs.Books.{Stage, opened, awaiting, storing, Book, fullPages, stopped}
 
 -- a function of numbers with another value at t
@@ -21,7 +21,7 @@ put f t v u = if (eqb u t) v (f u)
 
 -- the book with other lines
 abbrev pub withLines : Book → List Line → Book
-withLines b ls = record { origin = b .origin; lines = ls; stable = b .stable; begun = b .begun; running = b .running; known = b .known; stage = b .stage }
+withLines b ls = record { origin = b .origin; lines = ls; stable = b .stable; begun = b .begun; running = b .running; known = b .known; marked = b .marked; stage = b .stage }
 
 -- a line of the transaction that t runs
 abbrev pub adds : Book → ℕ → Record → Book
@@ -29,7 +29,7 @@ adds b t r = withLines b (line r (b .running t) ∷ b .lines)
 
 -- 't knows ..' the objects that the test names too
 abbrev pub learns : Book → ℕ → (ℕ → Bool) → Book
-learns b t f = record { origin = b .origin; lines = b .lines; stable = b .stable; begun = b .begun; running = b .running; known = put (b .known) t (λ o. b .known t o || f o); stage = b .stage }
+learns b t f = record { origin = b .origin; lines = b .lines; stable = b .stable; begun = b .begun; running = b .running; known = put (b .known) t (λ o. b .known t o || f o); marked = b .marked; stage = b .stage }
 
 -- 'each begin line opens a transaction of its own'; 'At begin t knows the root only.'
 abbrev pub begins : Book → ℕ → Book
@@ -40,12 +40,13 @@ begins b t = record {
   begun = b .begun + 1;
   running = put (b .running) t (b .begun + 1);
   known = put (b .known) t (eqb root);
+  marked = b .marked;
   stage = b .stage;
 }
 
 -- the end of the transaction that t runs
 abbrev pub ends : Book → ℕ → Book
-ends b t = record { origin = b .origin; lines = b .lines; stable = b .stable; begun = b .begun; running = put (b .running) t 0; known = put (b .known) t (λ o. false); stage = b .stage }
+ends b t = record { origin = b .origin; lines = b .lines; stable = b .stable; begun = b .begun; running = put (b .running) t 0; known = put (b .known) t (λ o. false); marked = b .marked; stage = b .stage }
 
 -- the slots of page p that a pass step cleared: set in the received map before it and not after it
 unfoldable pub clearedSlots : List ℕ → List ℕ → ℕ → ℕ
@@ -59,7 +60,7 @@ sweepLines before after ls (suc p) =
 
 -- 'Force makes the next line stable, struck or not.'
 abbrev pub forced : Book → Book
-forced b = record { origin = b .origin; lines = b .lines; stable = b .stable + 1; begun = b .begun; running = b .running; known = b .known; stage = b .stage }
+forced b = record { origin = b .origin; lines = b .lines; stable = b .stable + 1; begun = b .begun; running = b .running; known = b .known; marked = b .marked; stage = b .stage }
 
 -- 'Then P steps store one page each, page 0 first, and one more step empties the log.'
 abbrev pub stepped : ℕ → Stage → Stage
@@ -69,7 +70,39 @@ stepped n (storing k) = if (ltb k n) (storing (k + 1)) opened
 
 -- the book at another stage of a reopening
 abbrev pub atStage : Book → Stage → Book
-atStage b g = record { origin = b .origin; lines = b .lines; stable = b .stable; begun = b .begun; running = b .running; known = b .known; stage = g }
+atStage b g = record { origin = b .origin; lines = b .lines; stable = b .stable; begun = b .begun; running = b .running; known = b .known; marked = b .marked; stage = g }
+
+-- document 02, L3: t sets mark m
+abbrev pub marks : Book → ℕ → ℕ → Book
+marks b t m = record {
+  origin = b .origin;
+  lines = b .lines;
+  stable = b .stable;
+  begun = b .begun;
+  running = b .running;
+  known = b .known;
+  marked = put (b .marked) t (put (b .marked t) m (left (b .running t) (b .lines)));
+  stage = b .stage;
+}
+
+-- 'Going back appends undoing records, newest first': one of them, which 'strikes out itself and t's newest create or set left'.
+-- 'Objects so uncreated are no longer known.'
+abbrev pub undoes : Book → ℕ → Book
+undoes b t = record {
+  origin = b .origin;
+  lines = undoingNewest (b .running t) (b .lines) (struckNewest (b .running t) (b .lines));
+  stable = b .stable;
+  begun = b .begun;
+  running = b .running;
+  known = put (b .known) t (λ o. b .known t o && not (newestCreates (b .running t) (b .lines) o));
+  marked = b .marked;
+  stage = b .stage;
+}
+
+-- k of them
+unfoldable pub goesBack : ℕ → Book → ℕ → Book
+goesBack zero b t = b
+goesBack (suc k) b t = goesBack k (undoes b t) t
 
 -- an accepted call in a store of n pages; before, after: the received pages around it, of which only a pass step's cleared slots are read
 unfoldable pub fed : ℕ → Book → Call → List ℕ → List ℕ → Book
@@ -90,4 +123,6 @@ fed n b pass before after = b
 fed n b step before after = withLines b (sweepLines before after (b .lines) n)
 fed n b reopen before after = stopped (storing 0) b
 fed n b restep before after = atStage b (stepped n (b .stage))
+fed n b (mark t m) before after = marks b t m
+fed n b (back t m) before after = goesBack (left (b .running t) (b .lines) - b .marked t m) b t
 fed n b (look q) before after = b

@@ -5,7 +5,7 @@ use mathlib.Core.List.{List, [], _∷_}
 use lib.Dec.{eqb}
 use Rattle.words.specs.Tests.{if}
 use Rattle.records.specs.declared.Record.{Record}
-use Rattle.records.specs.Records.{isEnd}
+use Rattle.records.specs.Records.{isCreate, isEnd}
 use Rattle.records.specs.Effects.{effect, undoing}
 
 -- 'Each record that an accepted call appends by these papers is a line; each begin line opens a transaction of its own': the record,
@@ -47,6 +47,11 @@ undoingNewest i (l ∷ ls) rest =
 unfoldable pub undoneLines : ℕ → ℕ → List Line → List Line
 undoneLines i zero ls = ls
 undoneLines i (suc k) ls = undoneLines i k (undoingNewest i ls (struckNewest i ls))
+
+-- the newest one that is left creates object o
+unfoldable pub newestCreates : ℕ → List Line → ℕ → Bool
+newestCreates i [] o = false
+newestCreates i (l ∷ ls) o = let on = newestCreates i ls o in if (isLeft i l) (isCreate (l .entry) && eqb (l .entry .object) o) on
 
 -- own transaction i has a line of kind 4; one of kind 4 or 5
 unfoldable pub hasCommit : ℕ → List Line → Bool

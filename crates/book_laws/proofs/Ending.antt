@@ -1,34 +1,33 @@
--- What a commit and an abort do to the committed state and to the full pages, object by object: each concerns the pages that the
+-- What a commit and the end of an abort do to the committed state and to the full pages, object by object: each concerns the pages that the
 -- transaction writes, for its changes stand on no other, and no other's stand on these. Assumes nothing.
 use Prim.Native.Nat.{ℕ}
-use native.Mathlib.Omega.{arith}
 use native.Mathlib.Decide.{ℕ-discrete}
 use mathlib.Core.Path.{_≡_, refl, sym, ap, _∙_}
 use mathlib.Core.Bool.{Bool, true, false, not, _&&_, _||_}
-use mathlib.Core.List.{List}
+use mathlib.Core.List.{[], _∷_}
 use mathlib.Core.Logic.{_⊎_, inl, inr}
 use lib.Dec.{eqb}
 use borrow.Author.Tests.{eqb-true, eq-eqb, ne-eqb}
-use Rattle.words.specs.Tests.{if, by-bool, clash, and-split, and-l, and-false, or-cases, or-l, or-r, or-true, or-false}
+use Rattle.words.specs.Tests.{if, by-bool, clash, and-split, and-l, or-cases, or-l, or-r, or-true, or-false}
 use Rattle.pages.specs.Geometry.{pageOf}
 use Rattle.records.specs.declared.Record.{Record}
-use Rattle.records.specs.Records.{isSweep, commitOf}
+use Rattle.records.specs.Records.{isSweep, commitOf, abortedOf}
 use Rattle.machine_view.specs.View.{names}
-use Rattle.book.specs.Lines.{Line, line, isLeft, hasCommit}
+use Rattle.book.specs.Lines.{Line, line, isLeft, left, hasCommit}
 use Rattle.book.specs.Books.{Book, runs, countsCommitted, countsFull}
 use Rattle.book.specs.Pointers.{sweeps, makesOrFrees}
-use Rattle.book_laws.specs.Seen.{touches, seen, seenCommitted, seenFull}
-use Rattle.book_laws.specs.Striking.{strike, struckAll}
+use Rattle.book_laws.specs.Seen.{touches, seenCommitted, seenFull}
 use Rattle.book_laws.specs.After.{committedBy, abortedBy}
 use Rattle.book_laws.specs.Keeping.{In, Runs, BookInv, openly, Writers}
-use Rattle.book_laws.proofs.Members.{any-line}
-use Rattle.book_laws.proofs.Folds.{seen-agree, seen-past, seen-struck}
-use Rattle.book_laws.proofs.Ends.{unended, commit-past, commit-struck, left-facts}
-use Rattle.book_laws.proofs.Running.{bool-same, runs-by, runs-it, still, stays, ended-out, ended-other}
-use Rattle.book_laws.proofs.Committed.{Alike, seen-past-all, added, abort-idle, abort-own, abort-lines, abort-part}
+use Rattle.book_laws.proofs.Members.{each-nil, each-cons, any-line}
+use Rattle.book_laws.proofs.Folds.{seen-agree, seen-past}
+use Rattle.book_laws.proofs.Ends.{unended}
+use Rattle.book_laws.proofs.Undoing.{none-left}
+use Rattle.book_laws.proofs.Running.{bool-same, runs-by, runs-it, ended-other}
+use Rattle.book_laws.proofs.Committed.{Alike, Idle, alike-past}
 
 -- what touches an object and is no sweep names it
-touch : (r : Record) (x : ℕ) → touches r x ≡ true → isSweep r ≡ false
+pub touch : (r : Record) (x : ℕ) → touches r x ≡ true → isSweep r ≡ false
     → (((eqb (r .kind) 2 || eqb (r .kind) 3) ≡ true) ⊎ (r .kind ≡ 6)) × (eqb (r .object) x ≡ true)
 touch r x h s = elim (or-cases (names 3 r x) (makesOrFrees r x) h) [
   | inl e ↦ (let p = and-split (eqb (r .kind) 3) (eqb (r .object) x) e in (inl (or-r (eqb (r .kind) 2) (eqb (r .kind) 3) (p .0)), p .1))
@@ -42,20 +41,20 @@ touch r x h s = elim (or-cases (names 3 r x) (makesOrFrees r x) h) [
 ]
 
 -- two counts by owner agree if they do on what is neither a sweep nor struck out
-by-owner : (s k a b : Bool) → (s ≡ false → k ≡ false → a ≡ b) → (s || (not k && a)) ≡ (s || (not k && b))
+pub by-owner : (s k a b : Bool) → (s ≡ false → k ≡ false → a ≡ b) → (s || (not k && a)) ≡ (s || (not k && b))
 by-owner true k a b h = refl
 by-owner false true a b h = refl
 by-owner false false a b h = h refl refl
 
 -- the full pages' count as one
-full-owner : (s k a b : Bool) → ((s || (not k && a)) || (not k && b)) ≡ (s || (not k && (a || b)))
+pub full-owner : (s k a b : Bool) → ((s || (not k && a)) || (not k && b)) ≡ (s || (not k && (a || b)))
 full-owner true k a b = refl
 full-owner false true a b = refl
 full-owner false false a b = refl
 
 -- what does not hang on who writes which page
 module _ (b : Book) (inv : BookInv b) (t : ℕ) (run : Runs b t) where
-  commit-all : (l : Line) → countsFull (committedBy b t) l ≡ countsFull b l
+  pub commit-all : (l : Line) → countsFull (committedBy b t) l ≡ countsFull b l
   unfolding hasCommit
   commit-all l = full-owner (isSweep (l .entry)) (l .struck) (eqb (b .running t) (l .owner) || hasCommit (l .owner) (b .lines)) (runs (committedBy b t) (l .owner))
       ∙ by-owner (isSweep (l .entry)) (l .struck) ((eqb (b .running t) (l .owner) || hasCommit (l .owner) (b .lines)) || runs (committedBy b t) (l .owner)) (hasCommit (l .owner) (b .lines) || runs b (l .owner))
@@ -71,8 +70,10 @@ module _ (b : Book) (inv : BookInv b) (t : ℕ) (run : Runs b t) where
   none : hasCommit (b .running t) (b .lines) ≡ false
   none = unended (b .running t) (b .lines) (inv .unended t run)
 
+  -- the end of an abort
   pub abort-committed : Alike (abortedBy b t .lines) (b .lines)
-  abort-committed = abort-part (b .running t) t (b .lines) none 0 (omega arith)
+  abort-committed = alike-past (line (abortedOf t) (b .running t) ∷ []) (b .lines)
+      (each-cons (record { uncommitted = refl; unswept = refl; out = none }) (each-nil (Idle (b .lines))))
 
 module _ (b : Book) (inv : BookInv b) (wr : ℕ → ℕ → Bool) (w : Writers b wr) where
   pub open-line : (u : ℕ) → Runs b u → (l : Line) → In l (b .lines) → (x : ℕ) → l .owner ≡ b .running u → l .struck ≡ false → isSweep (l .entry) ≡ false
@@ -117,59 +118,37 @@ module _ (b : Book) (inv : BookInv b) (wr : ℕ → ℕ → Bool) (w : Writers b
         (λ e. rw e (seen-agree (b .origin) (countsCommitted kept) (countsFull b) (b .lines) x (commit-on x e)))
         (λ e. rw e (seen-agree (b .origin) (countsCommitted kept) (countsCommitted b) (b .lines) x (commit-off x e)))
 
-    -- abort
-    abbrev gone : Book
-    gone = abortedBy b t
+    -- the end of an abort, where nothing of t is left
+    module _ (over : left i (b .lines) ≡ 0) where
+      abbrev gone : Book
+      gone = abortedBy b t
 
-    unkept : hasCommit i (b .lines) ≡ false
-    unkept = none b inv t run
+      counts-then : (l : Line) → countsFull gone l ≡ (isSweep (l .entry) || (not (l .struck) && (hasCommit (l .owner) (b .lines) || runs gone (l .owner))))
+      unfolding hasCommit
+      counts-then l = full-owner (isSweep (l .entry)) (l .struck) (hasCommit (l .owner) (b .lines)) (runs gone (l .owner))
 
-    -- the full pages' count then
-    abbrev counts : Line → Bool
-    counts l = isSweep (l .entry) || (not (l .struck) && (hasCommit (l .owner) (b .lines) || runs gone (l .owner)))
+      -- no line of t that counts touches anything
+      own-none : (l : Line) → In l (b .lines) → (x : ℕ) → touches (l .entry) x ≡ true → isSweep (l .entry) ≡ false → l .struck ≡ false → l .owner ≡ i → ⊥
+      own-none l j x h s k o = let d = touch (l .entry) x h s in elim (d .0) [
+        | inl e ↦ clash (rw (eq-eqb (l .owner) i o, k, e) refl) (none-left i (b .lines) over l j)
+        | inr e ↦ clash (inv .lines l j .undoes e) k
+      ]
 
-    counts-then : (l : Line) → countsFull gone l ≡ counts l
-    counts-then l = full-owner (isSweep (l .entry)) (l .struck) (hasCommit (l .owner) (gone .lines)) (runs gone (l .owner))
-        ∙ ap (λ (z : Bool). isSweep (l .entry) || (not (l .struck) && (z || runs gone (l .owner))))
-        (ap (hasCommit (l .owner)) (abort-lines i t (b .lines) unkept)
-        ∙ commit-past (l .owner) (added i t (b .lines) unkept) (struckAll i (b .lines)) (λ m j. abort-idle i t (b .lines) unkept m j .uncommitted)
-        ∙ commit-struck (l .owner) i (b .lines))
+      pub abort-agree : (x : ℕ) (l : Line) → In l (b .lines) → touches (l .entry) x ≡ true → countsFull gone l ≡ countsFull b l
+      abort-agree x l j h = counts-then l ∙ by-owner (isSweep (l .entry)) (l .struck) (hasCommit (l .owner) (b .lines) || runs gone (l .owner)) (hasCommit (l .owner) (b .lines) || runs b (l .owner))
+          (λ s k. rw (ended-other b inv t run gone refl (l .owner) (own-none l j x h s k)))
+          ∙ sym (full-owner (isSweep (l .entry)) (l .struck) (hasCommit (l .owner) (b .lines)) (runs b (l .owner)))
 
-    own-out : (hasCommit i (b .lines) || runs gone i) ≡ false
-    own-out = rw (unkept, ended-out b inv t run gone refl)
+      pub abort-full : (x : ℕ) → seenFull gone x ≡ seenFull b x
+      abort-full x = seen-past (b .origin) (countsFull gone) (line (abortedOf t) i) (b .lines) x refl
+          ∙ seen-agree (b .origin) (countsFull gone) (countsFull b) (b .lines) x (abort-agree x)
 
-    added-out : (l : Line) → In l (added i t (b .lines) unkept) → counts l ≡ false
-    added-out l j = rw (abort-idle i t (b .lines) unkept l j .unswept, abort-own i t (b .lines) unkept l j, own-out) (and-false (not (l .struck)))
-
-    abort-seen : (x : ℕ) → seenFull gone x ≡ seen (b .origin) (λ l. counts (strike i l)) (b .lines) x
-    abort-seen x = seen-agree (b .origin) (countsFull gone) counts (gone .lines) x (λ l j h. counts-then l)
-        ∙ ap (λ (ls : List Line). seen (b .origin) counts ls x) (abort-lines i t (b .lines) unkept)
-        ∙ seen-past-all counts (b .origin) (added i t (b .lines) unkept) (struckAll i (b .lines)) x added-out
-        ∙ seen-struck (b .origin) counts i (b .lines) x
-
-    struck-out : (l : Line) → isLeft i l ≡ true → counts (strike i l) ≡ false
-    struck-out l e = let f = left-facts i l e in rw (e, f .unswept)
-
-    abort-on : (x : ℕ) → wr t (pageOf x) ≡ true → (l : Line) → In l (b .lines) → touches (l .entry) x ≡ true → counts (strike i l) ≡ countsCommitted b l
-    abort-on x on l j h = by-bool (isLeft i l)
-        (λ e. let f = left-facts i l e in struck-out l e ∙ rw (f .unswept, f .struck, f .owner) (sym unkept))
-        (λ e. rw e (by-owner (isSweep (l .entry)) (l .struck) (hasCommit (l .owner) (b .lines) || runs gone (l .owner)) (hasCommit (l .owner) (b .lines))
-        (λ s k. by-bool (runs gone (l .owner))
-        (λ z. runs-by gone (l .owner) z (λ u small q n. let d = still b inv t run gone refl u (λ y. n (sym q ∙ y)) in let o = sym (stays b inv t run gone refl u d) ∙ q in
-        absurd (d (w .one u t (pageOf x) (written u (λ y. n (sym o ∙ y)) l j x (sym o) k s h) on))))
-        (λ z. rw z (or-false (hasCommit (l .owner) (b .lines)))))))
-
-    abort-off : (x : ℕ) → wr t (pageOf x) ≡ false → (l : Line) → In l (b .lines) → touches (l .entry) x ≡ true → counts (strike i l) ≡ countsFull b l
-    abort-off x off l j h = by-bool (isLeft i l)
-        (λ e. let f = left-facts i l e in clash (written t run l j x (f .owner) (f .struck) (f .unswept) h) off)
-        (λ e. rw e (by-owner (isSweep (l .entry)) (l .struck) (hasCommit (l .owner) (b .lines) || runs gone (l .owner)) (hasCommit (l .owner) (b .lines) || runs b (l .owner))
-        (λ s k. elim (ℕ-discrete (l .owner) i) [
-          | yes z ↦ clash (written t run l j x z k s h) off
-          | no z ↦ rw (ended-other b inv t run gone refl (l .owner) z)
-        ])
-        ∙ sym (full-owner (isSweep (l .entry)) (l .struck) (hasCommit (l .owner) (b .lines)) (runs b (l .owner)))))
-
-    pub abort-full : (x : ℕ) → seenFull (abortedBy b t) x ≡ if (wr t (pageOf x)) (seenCommitted b x) (seenFull b x)
-    abort-full x = abort-seen x ∙ by-bool (wr t (pageOf x))
-        (λ e. rw e (seen-agree (b .origin) (λ l. counts (strike i l)) (countsCommitted b) (b .lines) x (abort-on x e)))
-        (λ e. rw e (seen-agree (b .origin) (λ l. counts (strike i l)) (countsFull b) (b .lines) x (abort-off x e)))
+      -- t's pages are as committed
+      pub abort-own : (x : ℕ) → wr t (pageOf x) ≡ true → seenFull b x ≡ seenCommitted b x
+      abort-own x on = seen-agree (b .origin) (countsFull b) (countsCommitted b) (b .lines) x (λ l j h.
+          full-owner (isSweep (l .entry)) (l .struck) (hasCommit (l .owner) (b .lines)) (runs b (l .owner))
+          ∙ by-owner (isSweep (l .entry)) (l .struck) (hasCommit (l .owner) (b .lines) || runs b (l .owner)) (hasCommit (l .owner) (b .lines))
+          (λ s k. by-bool (runs b (l .owner))
+          (λ z. runs-by b (l .owner) z (λ u small q n. let r : Runs b u = λ y. n (sym q ∙ y) in
+          absurd (own-none l j x h s k (sym q ∙ ap (b .running) (w .one u t (pageOf x) (written u r l j x (sym q) k s h) on)))))
+          (λ z. rw z (or-false (hasCommit (l .owner) (b .lines))))))

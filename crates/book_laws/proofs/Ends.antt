@@ -13,10 +13,10 @@ use Rattle.records.specs.declared.Record.{Record}
 use Rattle.records.specs.Records.{isEnd, isSweep}
 use Rattle.records.specs.Effects.{undoing}
 use Rattle.book.specs.Lines.{Line, isLeft, hasCommit, hasEnd}
-use Rattle.book_laws.specs.Striking.{strike, struckAll}
+use Rattle.book_laws.specs.Striking.{Strikes}
 use Rattle.book_laws.specs.Keeping.{In, here, later, Each, anyLine}
 use Rattle.book_laws.proofs.Members.{any-line}
-use Rattle.book_laws.proofs.Folds.{strike-entry, strike-owner}
+use Rattle.book_laws.proofs.Undoing.{strikes-any}
 
 module _ (f : Line → Bool) where
   pub any-false : (ls : List Line) → Each (λ l. f l ≡ false) ls → anyLine f ls ≡ false
@@ -33,11 +33,6 @@ module _ (f : Line → Bool) where
   unfolding anyLine
   any-past [] ls h = refl
   any-past (l ∷ a) ls h = rw (h l here) (any-past a ls (λ m i. h m (later i)))
-
-  pub any-struck : (i : ℕ) (ls : List Line) → ((l : Line) → f (strike i l) ≡ f l) → anyLine f (struckAll i ls) ≡ anyLine f ls
-  unfolding anyLine struckAll
-  any-struck i [] h = refl
-  any-struck i (l ∷ ls) h = rw (h l, any-struck i ls h)
 
   pub any-drop : (j : ℕ) (ls : List Line) → anyLine f ls ≡ false → anyLine f (drop j ls) ≡ false
   unfolding anyLine
@@ -69,11 +64,11 @@ module _ (i : ℕ) where
   pub end-past : (a ls : List Line) → Each (λ l. isEnd (l .entry) ≡ false) a → hasEnd i (a ++ ls) ≡ hasEnd i ls
   end-past a ls h = end-any (a ++ ls) ∙ any-past (ends i) a ls (λ l j. rw (h l j)) ∙ sym (end-any ls)
 
-  pub commit-struck : (k : ℕ) (ls : List Line) → hasCommit i (struckAll k ls) ≡ hasCommit i ls
-  commit-struck k ls = commit-any (struckAll k ls) ∙ any-struck (commits i) k ls (λ l. rw (strike-entry k l, strike-owner k l)) ∙ sym (commit-any ls)
+  pub commit-strikes : (k : ℕ) {ls ms : List Line} → Strikes k ls ms → hasCommit i ms ≡ hasCommit i ls
+  commit-strikes k {ls} {ms} s = commit-any ms ∙ strikes-any k (commits i) (λ l. refl) s ∙ sym (commit-any ls)
 
-  pub end-struck : (k : ℕ) (ls : List Line) → hasEnd i (struckAll k ls) ≡ hasEnd i ls
-  end-struck k ls = end-any (struckAll k ls) ∙ any-struck (ends i) k ls (λ l. rw (strike-entry k l, strike-owner k l)) ∙ sym (end-any ls)
+  pub end-strikes : (k : ℕ) {ls ms : List Line} → Strikes k ls ms → hasEnd i ms ≡ hasEnd i ls
+  end-strikes k {ls} {ms} s = end-any ms ∙ strikes-any k (ends i) (λ l. refl) s ∙ sym (end-any ls)
 
   pub no-commit-drop : (j : ℕ) (ls : List Line) → hasCommit i ls ≡ false → hasCommit i (drop j ls) ≡ false
   no-commit-drop j ls h = commit-any (drop j ls) ∙ any-drop (commits i) j ls (sym (commit-any ls) ∙ h)

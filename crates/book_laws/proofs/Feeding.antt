@@ -14,7 +14,7 @@ use Rattle.book.specs.Books.{Book, runs, countsCommitted, countsFull}
 use Rattle.book.specs.Feeding.{adds, begins}
 use Rattle.book_laws.specs.Seen.{counted, acted, seenCommitted, seenFull}
 use Rattle.book_laws.specs.After.{sweptBy}
-use Rattle.book_laws.specs.Keeping.{Runs, BookInv}
+use Rattle.book_laws.specs.Keeping.{In, Runs, BookInv}
 use Rattle.book_laws.proofs.Members.{each-nil, each-cons}
 use Rattle.book_laws.proofs.Folds.{seen-agree, seen-past, seen-on}
 use Rattle.book_laws.proofs.Ends.{unended, no-end}
@@ -35,11 +35,13 @@ module _ (b : Book) (inv : BookInv b) (t : ℕ) where
         none : hasCommit (b .begun + 1) (b .lines) ≡ false
         none = unended (b .begun + 1) (b .lines) (no-end (b .begun + 1) (b .lines) (λ l j z. let h = inv .lines l j .owned in omega arith))
 
-    pub begin-full : (x : ℕ) → seenFull (begins b t) x ≡ seenFull b x
+    pub begin-counts : (l : Line) → In l (b .lines) → countsFull (begins b t) l ≡ countsFull b l
     unfolding hasCommit
+    begin-counts l j = ap (λ (z : Bool). counted (b .lines) l || (not (l .struck) && z)) (begin-runs b inv t small idle (l .owner) (inv .lines l j .owned))
+
+    pub begin-full : (x : ℕ) → seenFull (begins b t) x ≡ seenFull b x
     begin-full x = seen-past (b .origin) (countsFull (begins b t)) (line (beginOf t) (b .begun + 1)) (b .lines) x refl
-        ∙ seen-agree (b .origin) (countsFull (begins b t)) (countsFull b) (b .lines) x
-        (λ l j e. ap (λ (z : Bool). counted (b .lines) l || (not (l .struck) && z)) (begin-runs b inv t small idle (l .owner) (inv .lines l j .owned)))
+        ∙ seen-agree (b .origin) (countsFull (begins b t)) (countsFull b) (b .lines) x (λ l j e. begin-counts l j)
 
   -- create and set: a record of any other kind than commit and sweep
   module _ (run : Runs b t) (r : Record) (uncommitted : eqb (r .kind) 4 ≡ false) (unswept : isSweep r ≡ false) where

@@ -1,9 +1,9 @@
--- The book's invariant is kept by what ends a transaction: commit and abort. Assumes nothing.
-use Prim.Native.Nat.{ℕ, _≤_}
+-- The book's invariant is kept by what ends a transaction, commit and the end of an abort, and by the undoing of a change. Assumes nothing.
+use Prim.Native.Nat.{ℕ, suc, _≤_}
 use native.Mathlib.Omega.{arith}
-use mathlib.Core.Path.{_≡_, refl, sym, ap, _∙_}
+use mathlib.Core.Path.{_≡_, refl, sym, ap, _∙_, subst}
 use mathlib.Core.Bool.{true, false, _&&_}
-use mathlib.Core.List.{List, [], _∷_, _++_}
+use mathlib.Core.List.{List, _∷_}
 use mathlib.Core.Logic.{inl, inr}
 use native.Mathlib.Decide.{ℕ-discrete}
 use lib.ListN.{length}
@@ -11,18 +11,18 @@ use lib.Dec.{eqb}
 use borrow.Author.Tests.{eqb-true, eq-eqb, ne-eqb}
 use Rattle.words.specs.Tests.{by-bool, clash, or-cases, or-r}
 use Rattle.records.specs.declared.Record.{Record}
+use Rattle.records.specs.Effects.{undoing}
 use Rattle.records.specs.Records.{isBegin, isSweep, isEnd, commitOf, abortedOf}
-use Rattle.book.specs.Lines.{Line, line, struckOut, isLeft, hasEnd}
+use Rattle.book.specs.Lines.{Line, line, struckOut, isLeft, left, struckNewest, hasEnd}
 use Rattle.book.specs.Books.{Book, runs}
-use Rattle.book.specs.Feeding.{withLines, adds, ends}
-use Rattle.book_laws.specs.Striking.{strike, struckAll, undoingsOn}
-use Rattle.book_laws.specs.After.{committedBy, undoneBy, abortedBy}
-use Rattle.book_laws.specs.Keeping.{here, later, Each, Runs, LineOk, Since, atBegin, newer, BookInv}
-use Rattle.book_laws.proofs.Members.{each-nil, each-cons}
-use Rattle.book_laws.proofs.Folds.{length-struck, strike-entry, strike-owner}
-use Rattle.book_laws.proofs.Undoing.{undoingLine, undone-lines, undoings-append, undoings-length, each-undoings, each-struck}
-use Rattle.book_laws.proofs.Ends.{end-past, end-struck, Left, left-facts, undoing-kind}
-use Rattle.book_laws.proofs.Running.{still, stays, ended-other}
+use Rattle.book.specs.Feeding.{withLines, adds, ends, undoes}
+use Rattle.book_laws.specs.Striking.{undoingLine, Strikes, stays, out}
+use Rattle.book_laws.specs.After.{committedBy, abortedBy}
+use Rattle.book_laws.specs.Keeping.{Each, Runs, LineOk, Since, atBegin, newer, BookInv}
+use Rattle.book_laws.proofs.Members.{each-cons}
+use Rattle.book_laws.proofs.Undoing.{struck-not-left, strikes-newest, strikes-length, strikes-each, Newest, newest, left-less}
+use Rattle.book_laws.proofs.Ends.{end-strikes, left-facts, undoing-kind}
+use Rattle.book_laws.proofs.Running.{runs-it, still, stays as stays-on, ended-other}
 
 -- a line that may stand once t has ended
 record Kept (b : Book) (t : ℕ) (l : Line) : Type 0 where
@@ -31,7 +31,6 @@ record Kept (b : Book) (t : ℕ) (l : Line) : Type 0 where
   someone : isSweep (l .entry) ≡ false → l .owner ≡ 0 → ⊥
   undoes : l .entry .kind ≡ 6 → l .struck ≡ true
   ends : isEnd (l .entry) ≡ true → l .struck ≡ false
-  stands : (u : ℕ) → (u ≡ t → ⊥) → Runs b u → l .owner ≡ b .running u → l .struck ≡ false
   names : (u : ℕ) → (u ≡ t → ⊥) → Runs b u → l .owner ≡ b .running u → l .entry .txn ≡ u
   over : isSweep (l .entry) ≡ false → (l .owner ≡ b .running t → ⊥) → runs b (l .owner) ≡ false → hasEnd (l .owner) (b .lines) ≡ true
 
@@ -42,7 +41,6 @@ kept k = record {
   someone = k .someone;
   undoes = k .undoes;
   ends = k .ends;
-  stands = λ u n. k .stands u;
   names = λ u n. k .names u;
   over = λ s n. k .over s;
 }
@@ -71,7 +69,7 @@ module _ (b : Book) (inv : BookInv b) (t : ℕ) (run : Runs b t) where
     away u r = still b inv t run c refl u r
 
     at : (u : ℕ) → Runs c u → c .running u ≡ b .running u
-    at u r = stays b inv t run c refl u (away u r)
+    at u r = stays-on b inv t run c refl u (away u r)
 
     runs-on : (u : ℕ) → Runs c u → Runs b u
     runs-on u r z = r (at u r ∙ z)
@@ -98,7 +96,6 @@ module _ (b : Book) (inv : BookInv b) (t : ℕ) (run : Runs b t) where
           someone = λ z. run;
           undoes = λ z. absurd (done z);
           ends = λ z. refl;
-          stands = λ u r q. refl;
           names = λ u r q. absurd (foreign u r q);
           over = λ z k. own-end;
         }
@@ -110,7 +107,6 @@ module _ (b : Book) (inv : BookInv b) (t : ℕ) (run : Runs b t) where
           someone = k .someone;
           undoes = k .undoes;
           ends = k .ends;
-          stands = λ u r q. k .stands u (away u r) (runs-on u r) (q ∙ at u r);
           names = λ u r q. k .names u (away u r) (runs-on u r) (q ∙ at u r);
           over = λ s z. elim (ℕ-discrete (l .owner) (b .running t)) [
             | yes q ↦ ap (λ (i : ℕ). hasEnd i (c .lines)) q ∙ own-end
@@ -122,73 +118,98 @@ module _ (b : Book) (inv : BookInv b) (t : ℕ) (run : Runs b t) where
   commit-inv = finish-inv (commitOf t) refl refl (λ z. omega arith) (b .lines) (λ i. refl) (λ l j. kept (inv .lines l j)) (omega arith)
       refl (λ u. refl) (λ u n. inv .since u)
 
-  abbrev i : ℕ
-  i = b .running t
-
-  -- the lines of an abort
-  undoing-kept : (l : Line) → Kept b t (undoingLine i l)
-  undoing-kept l = record {
-    owned = inv .young t;
-    swept = λ z. clash z (undoing-kind (l .entry) .unswept);
-    someone = λ z. run;
-    undoes = λ z. refl;
-    ends = λ z. clash z (undoing-kind (l .entry) .unended);
-    stands = λ u n r q. absurd (n (sym (inv .distinct t u run q)));
-    names = λ u n r q. absurd (n (sym (inv .distinct t u run q)));
-    over = λ s n. absurd (n refl);
-  }
-
-  struck-kept : (l : Line) → LineOk b l → Kept b t (strike i l)
-  struck-kept l k = by-bool (isLeft i l) (λ e. rw e (out (left-facts i l e))) (λ e. rw e (kept k))
-    where
-      changes : Left i l → isEnd (l .entry) ≡ true → ⊥
-      changes f z = elim (or-cases (eqb (l .entry .kind) 2) (eqb (l .entry .kind) 3) (f .kind)) [
-        | inl q ↦ clash (rw (eqb-true (l .entry .kind) 2 q) at z) refl
-        | inr q ↦ clash (rw (eqb-true (l .entry .kind) 3 q) at z) refl
-      ]
-
-      out : Left i l → Kept b t (struckOut l)
-      out f = record {
-        owned = k .owned;
-        swept = k .swept;
-        someone = k .someone;
-        undoes = λ z. refl;
-        ends = λ z. absurd (changes f z);
-        stands = λ u n r q. absurd (n (sym (inv .distinct t u run (sym (f .owner) ∙ q))));
-        names = λ u n. k .names u;
-        over = λ s n. absurd (n (f .owner));
-      }
-
-  -- nothing of another's order changes
-  since-struck : (u k : ℕ) (ls : List Line) → Since u k ls → Since u k (struckAll i ls)
-  unfolding struckAll
-  since-struck u k (l ∷ ls) (atBegin p o h) = let q : isBegin (strike i l .entry) u ≡ true = rw (strike-entry i l) p in
-      atBegin q (strike-owner i l ∙ o) (each-struck i (λ m. m .owner ≡ k → ⊥) ls (λ m j z. h m j (sym (strike-owner i m) ∙ z)))
-  since-struck u k (l ∷ ls) (newer p o s) = let q : isBegin (strike i l .entry) u ≡ false = rw (strike-entry i l) p in
-      newer {l = strike i l} q (λ z d. strike-owner i l ∙ o (rw (strike-entry i l) at z) (rw (strike-entry i l) at d)) (since-struck u k ls s)
-
-  since-past : (u k : ℕ) (a ls : List Line) → Each (λ l. (isBegin (l .entry) u ≡ false) × (l .entry .txn ≡ u → ⊥)) a → Since u k ls → Since u k (a ++ ls)
-  since-past u k [] ls h s = s
-  since-past u k (l ∷ a) ls h s = newer (h l here .0) (λ z q. absurd (h l here .1 q)) (since-past u k a ls (λ m j. h m (later j)) s)
-
-  since-undone : (u : ℕ) → (u ≡ t → ⊥) → Runs b u → Since u (b .running u) (undoneBy b t)
-  since-undone u n r = rw (undone-lines i (b .lines), undoings-append i (b .lines) (struckAll i (b .lines)))
-      (since-past u (b .running u) (undoingsOn i (b .lines) []) (struckAll i (b .lines))
-      (each-undoings i (b .lines) [] (λ l j e. let k = undoing-kind (l .entry) in (
-        rw (k .unbegun),
-        λ z. n (sym z ∙ k .txn ∙ inv .lines l j .names t run (left-facts i l e .owner)),
-      )) (each-nil (λ l. (isBegin (l .entry) u ≡ false) × (l .entry .txn ≡ u → ⊥))))
-      (since-struck u (b .running u) (b .lines) (inv .since u r)))
-
-  pub undone-end : (j : ℕ) → hasEnd j (undoneBy b t) ≡ hasEnd j (b .lines)
-  undone-end j = ap (hasEnd j) (undone-lines i (b .lines) ∙ undoings-append i (b .lines) (struckAll i (b .lines)))
-      ∙ end-past j (undoingsOn i (b .lines) []) (struckAll i (b .lines))
-      (each-undoings i (b .lines) [] (λ l k e. undoing-kind (l .entry) .unended) (each-nil (λ l. isEnd (l .entry) ≡ false)))
-      ∙ end-struck j i (b .lines)
-
+  -- nothing of t is left
   pub abort-inv : BookInv (abortedBy b t)
-  abort-inv = finish-inv (abortedOf t) refl refl (λ z. omega arith) (undoneBy b t) undone-end
-      (rw (undone-lines i (b .lines)) (each-undoings i (b .lines) (struckAll i (b .lines)) (λ l k e. undoing-kept l)
-      (each-struck i (Kept b t) (b .lines) (λ l k. struck-kept l (inv .lines l k)))))
-      (rw (undone-lines i (b .lines), undoings-length i (b .lines) (struckAll i (b .lines)), length-struck i (b .lines)) (omega arith))
-      refl (λ u. refl) since-undone
+  abort-inv = finish-inv (abortedOf t) refl refl (λ z. omega arith) (b .lines) (λ i. refl) (λ l j. kept (inv .lines l j)) (omega arith)
+      refl (λ u. refl) (λ u n. inv .since u)
+
+  -- t's newest change is undone
+  module _ (k : ℕ) (some : left (b .running t) (b .lines) ≡ suc k) where
+    abbrev i : ℕ
+    i = b .running t
+
+    abbrev l : Line
+    l = newest i (b .lines) k some .0
+
+    abbrev top : Newest i (b .lines) l
+    top = newest i (b .lines) k some .1
+
+    struck : Strikes i (b .lines) (struckNewest i (b .lines))
+    struck = strikes-newest i (b .lines)
+
+    pub undo-lines : undoes b t .lines ≡ undoingLine i l ∷ struckNewest i (b .lines)
+    undo-lines = top .undoing (struckNewest i (b .lines))
+
+    pub undo-left : left i (undoes b t .lines) ≡ k
+    unfolding left
+    undo-left = ap (left i) undo-lines ∙ rw (struck-not-left i (line (undoing (l .entry)) i)) (let h = left-less i (b .lines) k some in omega arith)
+
+    pub undo-end : (j : ℕ) → hasEnd j (undoes b t .lines) ≡ hasEnd j (b .lines)
+    unfolding hasEnd
+    undo-end j = ap (hasEnd j) undo-lines ∙ rw (undoing-kind (l .entry) .unended) (end-strikes j i struck)
+
+    line-kept : (l : Line) → LineOk b l → LineOk (undoes b t) l
+    unfolding runs
+    line-kept l o = record {
+      owned = o .owned;
+      swept = o .swept;
+      someone = o .someone;
+      undoes = o .undoes;
+      ends = o .ends;
+      names = o .names;
+      over = λ s z. undo-end (l .owner) ∙ o .over s z;
+    }
+
+    line-struck : (l : Line) → LineOk b l → isLeft i l ≡ true → LineOk (undoes b t) (struckOut l)
+    unfolding runs
+    line-struck l o e = record {
+      owned = o .owned;
+      swept = o .swept;
+      someone = o .someone;
+      undoes = λ z. refl;
+      ends = λ z. absurd (changes z);
+      names = o .names;
+      over = λ s z. undo-end (l .owner) ∙ o .over s z;
+    }
+      where
+        changes : isEnd (l .entry) ≡ true → ⊥
+        changes z = elim (or-cases (eqb (l .entry .kind) 2) (eqb (l .entry .kind) 3) (left-facts i l e .kind)) [
+          | inl q ↦ clash (rw (eqb-true (l .entry .kind) 2 q) at z) refl
+          | inr q ↦ clash (rw (eqb-true (l .entry .kind) 3 q) at z) refl
+        ]
+
+    pub newest-txn : l .entry .txn ≡ t
+    newest-txn = inv .lines l (top .there) .names t run (left-facts i l (top .is-left) .owner)
+
+    line-new : LineOk (undoes b t) (undoingLine i l)
+    unfolding runs
+    line-new = let q = undoing-kind (l .entry) in record {
+      owned = inv .young t;
+      swept = λ z. clash z (q .unswept);
+      someone = λ z. run;
+      undoes = λ z. refl;
+      ends = λ z. clash z (q .unended);
+      names = λ u r z. q .txn ∙ newest-txn ∙ inv .distinct t u run z;
+      over = λ s z. clash (runs-it b inv t run) z;
+    }
+
+    since-strikes : (u j : ℕ) {ls ms : List Line} → Strikes i ls ms → Since u j ls → Since u j ms
+    since-strikes u j (stays s) (atBegin p o h) = atBegin p o (strikes-each i (λ m. m .owner ≡ j → ⊥) s h (λ l n e. h l n))
+    since-strikes u j (stays s) (newer p o h) = newer p o (since-strikes u j s h)
+    since-strikes u j (out {l} e s) (atBegin p o h) = atBegin p o (strikes-each i (λ m. m .owner ≡ j → ⊥) s h (λ l n e. h l n))
+    since-strikes u j (out {l} e s) (newer p o h) = newer p o (since-strikes u j s h)
+
+    since-undone : (u : ℕ) → Runs b u → Since u (b .running u) (undoes b t .lines)
+    since-undone u r = let q = undoing-kind (l .entry) in rw undo-lines (newer {l = undoingLine i l} (rw (q .unbegun))
+        (λ s z. ap (b .running) (sym newest-txn ∙ sym (q .txn) ∙ z)) (since-strikes u (b .running u) struck (inv .since u r)))
+
+    pub undo-inv : BookInv (undoes b t)
+    undo-inv = record {
+      distinct = inv .distinct;
+      few = inv .few;
+      young = inv .young;
+      unended = λ u r. undo-end (b .running u) ∙ inv .unended u r;
+      lines = subst (λ (ls : List Line). Each (LineOk (undoes b t)) ls) (sym undo-lines) (each-cons line-new (strikes-each i (LineOk (undoes b t)) struck (λ l j. line-kept l (inv .lines l j)) (λ l j e. line-struck l (inv .lines l j) e)));
+      since = since-undone;
+      stable = rw undo-lines (let h = inv .stable in let e = strikes-length i struck in omega arith);
+    }

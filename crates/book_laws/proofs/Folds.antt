@@ -12,11 +12,12 @@ use Rattle.records.specs.Soundness.{recordSound}
 use Rattle.machine_view.specs.View.{view, names, applied}
 use Rattle.record_laws.specs.EffectLaws.{length-effect}
 use Rattle.machine_view.proofs.Records.{effect-view}
-use Rattle.book.specs.Lines.{Line, isLeft, filtered, pagesAfter}
+use Rattle.book.specs.Lines.{Line, struckOut, isLeft, filtered, pagesAfter}
 use Rattle.book.specs.Pointers.{sweeps, makesOrFrees}
 use Rattle.book_laws.specs.Seen.{touches, tagged, Seen, acted, seen}
-use Rattle.book_laws.specs.Striking.{strike, struckAll}
+use Rattle.book_laws.specs.Striking.{Strikes, none, stays, out}
 use Rattle.book_laws.specs.Keeping.{In, here, later}
+use Rattle.book_laws.proofs.Undoing.{strikes-length}
 
 -- what a test that fails says of its parts: kinds 2, 3, 6, the object, a sweep
 record Parts (two three six o s : Bool) : Type 0 where
@@ -70,22 +71,13 @@ seen-agree a c d (l ∷ ls) x h = let ih = seen-agree a c d ls x (λ m i. h m (l
     (λ e. rw (ih, h l here e))
     (λ e. seen-past a c l ls x e ∙ ih ∙ sym (seen-past a d l ls x e))
 
--- lines struck out are read by a test of what they become
-pub length-struck : (i : ℕ) (ls : List Line) → length (struckAll i ls) ≡ length ls
-unfolding struckAll
-length-struck i [] = refl
-length-struck i (l ∷ ls) = ap suc (length-struck i ls)
-
-pub strike-entry : (i : ℕ) (l : Line) → strike i l .entry ≡ l .entry
-strike-entry i l = by-bool (isLeft i l) (λ e. rw e) (λ e. rw e)
-
-pub strike-owner : (i : ℕ) (l : Line) → strike i l .owner ≡ l .owner
-strike-owner i l = by-bool (isLeft i l) (λ e. rw e) (λ e. rw e)
-
-pub seen-struck : (a : List ℕ) (c : Line → Bool) (i : ℕ) (ls : List Line) (x : ℕ) → seen a c (struckAll i ls) x ≡ seen a (λ l. c (strike i l)) ls x
-unfolding seen struckAll
-seen-struck a c i [] x = refl
-seen-struck a c i (l ∷ ls) x = rw (length-struck i ls, seen-struck a c i ls x, strike-entry i l)
+-- lines struck out that do not touch an object
+pub seen-strikes : (a : List ℕ) (c : Line → Bool) (i : ℕ) (x : ℕ) {ls ms : List Line} → Strikes i ls ms → ((l : Line) → In l ls → isLeft i l ≡ true → touches (l .entry) x ≡ false)
+    → seen a c ms x ≡ seen a c ls x
+unfolding seen
+seen-strikes a c i x none h = refl
+seen-strikes a c i x (stays {l} s) h = rw (strikes-length i s, seen-strikes a c i x s (λ m j. h m (later j)))
+seen-strikes a c i x (out {l} {ls} {ms} e s) h = seen-past a c (struckOut l) ms x (h l here e) ∙ seen-strikes a c i x s (λ m j. h m (later j)) ∙ sym (seen-past a c l ls x (h l here e))
 
 -- the pages after the lines that pass, whose records are sound, from pages a of n on
 module _ (n : ℕ) (a : List ℕ) (size : length a ≡ pageWords * n) (c : Line → Bool) where

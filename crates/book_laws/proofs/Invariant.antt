@@ -13,7 +13,7 @@ use Rattle.records.specs.declared.Record.{Record}
 use Rattle.records.specs.Records.{isBegin, isSweep, isEnd, beginOf, sweepOf, txnCount}
 use Rattle.book.specs.Lines.{Line, line, hasEnd}
 use Rattle.book.specs.Books.{Stage, Book, blank, runs, surviving, stopped}
-use Rattle.book.specs.Feeding.{put, withLines, adds, learns, begins, forced, atStage, clearedSlots, sweepLines}
+use Rattle.book.specs.Feeding.{put, withLines, adds, learns, begins, forced, atStage, clearedSlots, sweepLines, marks}
 use Rattle.book_laws.specs.After.{sweptBy}
 use Rattle.book_laws.specs.Keeping.{In, Runs, LineOk, atBegin, newer, BookInv}
 use Rattle.book_laws.proofs.Members.{each-nil, each-cons, each-drop, in-filtered}
@@ -47,7 +47,6 @@ module _ (b : Book) (inv : BookInv b) (n : Line) (on : isEnd (n .entry) ≡ fals
     someone = k .someone;
     undoes = k .undoes;
     ends = k .ends;
-    stands = k .stands;
     names = k .names;
     over = λ e z. same-end (l .owner) ∙ k .over e z;
   }
@@ -72,7 +71,6 @@ adds-inv b inv t r run e s u o m = grow-inv b inv (line r (b .running t)) e (rec
   someone = λ z. run;
   undoes = λ z. absurd (u z);
   ends = λ z. refl;
-  stands = λ v k q. refl;
   names = λ v k q. m ∙ inv .distinct t v run q;
   over = λ z k. clash (runs-it b inv t run) k;
 }) (λ v. rw (ne-eqb (r .kind) 1 o)) (λ v k z q. ap (b .running) (sym m ∙ q))
@@ -85,7 +83,6 @@ sweep-inv b inv p m = grow-inv b inv (line (sweepOf p m) 0) refl (record {
   someone = λ z. clash refl z;
   undoes = λ z. absurd (omega arith);
   ends = λ z. refl;
-  stands = λ v k q. refl;
   names = λ v k q. absurd (k (sym q));
   over = λ z k. clash refl z;
 }) (λ v. refl) (λ v k z. clash refl z)
@@ -98,12 +95,12 @@ sweeps-inv b inv before after (suc p) = let ih = sweeps-inv b inv before after p
     (λ e. rw e (sweep-inv (withLines b (sweepLines before after (b .lines) p)) ih p (clearedSlots before after p)))
 
 -- the same lines and transactions: of learning, of forcing a line, of a stage
-abbrev beside : Book → ℕ → (ℕ → ℕ → Bool) → Stage → Book
-beside b k f g = record { origin = b .origin; lines = b .lines; stable = k; begun = b .begun; running = b .running; known = f; stage = g }
+abbrev beside : Book → ℕ → (ℕ → ℕ → Bool) → (ℕ → ℕ → ℕ) → Stage → Book
+beside b k f m g = record { origin = b .origin; lines = b .lines; stable = k; begun = b .begun; running = b .running; known = f; marked = m; stage = g }
 
-beside-inv : (b : Book) → BookInv b → (k : ℕ) (f : ℕ → ℕ → Bool) (g : Stage) → k ≤ length (b .lines) → BookInv (beside b k f g)
+beside-inv : (b : Book) → BookInv b → (k : ℕ) (f : ℕ → ℕ → Bool) (m : ℕ → ℕ → ℕ) (g : Stage) → k ≤ length (b .lines) → BookInv (beside b k f m g)
 unfolding runs
-beside-inv b inv k f g h = record {
+beside-inv b inv k f m g h = record {
   distinct = inv .distinct;
   few = inv .few;
   young = inv .young;
@@ -114,7 +111,6 @@ beside-inv b inv k f g h = record {
     someone = o .someone;
     undoes = o .undoes;
     ends = o .ends;
-    stands = o .stands;
     names = o .names;
     over = o .over;
   };
@@ -123,13 +119,16 @@ beside-inv b inv k f g h = record {
 }
 
 pub learn-inv : (b : Book) → BookInv b → (t : ℕ) (f : ℕ → Bool) → BookInv (learns b t f)
-learn-inv b inv t f = beside-inv b inv (b .stable) (learns b t f .known) (b .stage) (inv .stable)
+learn-inv b inv t f = beside-inv b inv (b .stable) (learns b t f .known) (b .marked) (b .stage) (inv .stable)
 
 pub force-inv : (b : Book) → BookInv b → b .stable < length (b .lines) → BookInv (forced b)
-force-inv b inv h = beside-inv b inv (b .stable + 1) (b .known) (b .stage) (omega arith)
+force-inv b inv h = beside-inv b inv (b .stable + 1) (b .known) (b .marked) (b .stage) (omega arith)
 
 pub stage-inv : (b : Book) → BookInv b → (g : Stage) → BookInv (atStage b g)
-stage-inv b inv g = beside-inv b inv (b .stable) (b .known) g (inv .stable)
+stage-inv b inv g = beside-inv b inv (b .stable) (b .known) (b .marked) g (inv .stable)
+
+pub mark-inv : (b : Book) → BookInv b → (t m : ℕ) → BookInv (marks b t m)
+mark-inv b inv t m = beside-inv b inv (b .stable) (b .known) (marks b t m .marked) (b .stage) (inv .stable)
 
 -- 'each begin line opens a transaction of its own'
 module _ (b : Book) (inv : BookInv b) (t : ℕ) (small : t < txnCount) (idle : b .running t ≡ 0) where
@@ -170,7 +169,6 @@ module _ (b : Book) (inv : BookInv b) (t : ℕ) (small : t < txnCount) (idle : b
         someone = λ z e. omega arith;
         undoes = λ z. absurd (omega arith);
         ends = λ z. refl;
-        stands = λ u k e. refl;
         names = λ u k e. by-bool (eqb u t) (λ p. sym (eqb-true u t p)) (λ p. absurd (let h = inv .young u in let q : i ≡ b .running u = rw p at e in omega arith));
         over = λ z k. clash (runs-of (begins b t) t i small (λ e. omega arith) (put-same (b .running) t i)) k;
       }
@@ -186,7 +184,6 @@ module _ (b : Book) (inv : BookInv b) (t : ℕ) (small : t < txnCount) (idle : b
         someone = k .someone;
         undoes = k .undoes;
         ends = k .ends;
-        stands = λ u r e. let d = put-other (b .running) t i u (mine l k u e) in k .stands u (rw d at r) (e ∙ d);
         names = λ u r e. let d = put-other (b .running) t i u (mine l k u e) in k .names u (rw d at r) (e ∙ d);
         over = λ s z. same (l .owner) ∙ k .over s (sym (begin-runs (l .owner) (k .owned)) ∙ z);
       }
@@ -214,7 +211,6 @@ stop-inv g b inv = record {
       someone = k .someone;
       undoes = k .undoes;
       ends = k .ends;
-      stands = λ u r e. absurd (r refl);
       names = λ u r e. absurd (r refl);
       over = λ s z. survive-end (l .owner) (stableLines b) ∙ elim (or-cases (isSweep (l .entry)) (hasEnd (l .owner) (stableLines b)) (j .1)) [ inl e ↦ clash e s | inr e ↦ e ];
     }

@@ -1,20 +1,23 @@
 -- The proofs that belong to no one function.
 pub mod Members
+pub mod Undoing
 pub mod Folds
 pub mod Tags
 pub mod Acts
-pub mod Undoing
 pub mod Ends
 pub mod Committed
 pub mod Running
 pub mod Stops
 pub mod Invariant
 pub mod Finishing
+pub mod GoingBack
 pub mod Fed
 pub mod Feeding
 pub mod Ending
 pub mod Openness
-pub mod Changes
+pub mod Backing
 pub mod Soundness
 pub mod Sweeps
 pub mod Pages
+pub mod OwnPages
+pub mod GoneBack

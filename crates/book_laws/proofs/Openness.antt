@@ -1,5 +1,5 @@
 -- Which objects the changes of running transactions name, as calls are fed. Assumes nothing.
-use Prim.Native.Nat.{ℕ, _+_}
+use Prim.Native.Nat.{ℕ, suc, _+_}
 use native.Mathlib.Omega.{arith}
 use mathlib.Core.Path.{_≡_, refl, sym}
 use mathlib.Core.Bool.{true, false, not, _&&_, _||_}
@@ -7,18 +7,18 @@ use mathlib.Core.List.{List}
 use mathlib.Core.Logic.{_⊎_, inl, inr}
 use lib.Dec.{eqb}
 use borrow.Author.Tests.{eqb-true, eqb-false, eq-eqb, ne-eqb, not-true}
-use Rattle.words.specs.Tests.{by-bool, clash, and-split}
+use Rattle.words.specs.Tests.{clash, and-split}
 use Rattle.records.specs.declared.Record.{Record}
 use Rattle.records.specs.Records.{beginOf, commitOf, abortedOf, sweepOf}
 use Rattle.records.specs.Effects.{undoing}
-use Rattle.book.specs.Lines.{Line, line, isLeft}
+use Rattle.book.specs.Lines.{Line, line, isLeft, left}
 use Rattle.book.specs.Books.{Book}
-use Rattle.book.specs.Feeding.{withLines, adds, begins, ends}
-use Rattle.book_laws.specs.Striking.{struckAll}
-use Rattle.book_laws.specs.After.{committedBy, undoneBy, abortedBy, sweptBy}
+use Rattle.book.specs.Feeding.{withLines, adds, begins, ends, undoes}
+use Rattle.book_laws.specs.After.{committedBy, abortedBy, sweptBy}
 use Rattle.book_laws.specs.Keeping.{In, Each, Runs, BookInv, anyLine, openly}
 use Rattle.book_laws.proofs.Members.{each-cons, any-line}
-use Rattle.book_laws.proofs.Undoing.{undone-lines, each-undoings, each-struck, struck-not-left}
+use Rattle.book_laws.proofs.Undoing.{newest, strikes-newest, strikes-each, struck-not-left}
+use Rattle.book_laws.proofs.Finishing.{undo-lines}
 use Rattle.book_laws.proofs.Ends.{any-found, left-facts}
 use Rattle.book_laws.proofs.Running.{put-other, still, stays}
 
@@ -74,11 +74,13 @@ module _ (b : Book) (inv : BookInv b) (t : ℕ) where
     pub open-commit : (u x : ℕ) → openly (committedBy b t) u x ≡ true → (u ≡ t → ⊥) × (openly b u x ≡ true)
     open-commit = open-end (commitOf t) refl (b .lines) (λ u n l j e. j)
 
-    pub open-abort : (u x : ℕ) → openly (abortedBy b t) u x ≡ true
-        → (u ≡ t → ⊥) × (openly b u x ≡ true)
-    open-abort = open-end (abortedOf t) refl (undoneBy b t)
-        (λ u n. rw (undone-lines (b .running t) (b .lines)) (each-undoings (b .running t) (b .lines) (struckAll (b .running t) (b .lines))
-        (λ l j e k. clash k (struck-not-left (b .running u) (line (undoing (l .entry)) (b .running t))))
-        (each-struck (b .running t) (λ l. isLeft (b .running u) l ≡ true → In l (b .lines)) (b .lines) (λ l j k. by-bool (isLeft (b .running t) l)
-        (λ z. clash (rw z at k) (struck-not-left (b .running u) l))
-        (λ z. rw z j)))))
+    pub open-abort : (u x : ℕ) → openly (abortedBy b t) u x ≡ true → (u ≡ t → ⊥) × (openly b u x ≡ true)
+    open-abort = open-end (abortedOf t) refl (b .lines) (λ u n l j e. j)
+
+    -- a change undone is left no more
+    pub open-undo : (k : ℕ) → left (b .running t) (b .lines) ≡ suc k → (u x : ℕ) → openly (undoes b t) u x ≡ true → openly b u x ≡ true
+    open-undo k some u x h = open-elim (undoes b t) u x h (λ r. rw (undo-lines b inv t run k some)
+        (each-cons {P = λ l. isLeft (b .running u) l ≡ true → l .entry .object ≡ x → openly b u x ≡ true}
+        (λ e o. clash e (struck-not-left (b .running u) (line (undoing (newest (b .running t) (b .lines) k some .0 .entry)) (b .running t))))
+        (strikes-each (b .running t) (λ l. isLeft (b .running u) l ≡ true → l .entry .object ≡ x → openly b u x ≡ true) (strikes-newest (b .running t) (b .lines))
+        (λ l j e o. open-intro b u x r l j e o) (λ l j d e o. clash e (struck-not-left (b .running u) l)))))

@@ -1,26 +1,25 @@
--- The records of the book's lines stay sound: where an abort's undoing records are added, and where a stop leaves some of the lines.
+-- The records of the book's lines stay sound: where an undoing record is added, and where a stop leaves some of the lines.
 -- n is the number of pages. Assumes nothing.
-use Prim.Native.Nat.{ℕ, _-_}
+use Prim.Native.Nat.{ℕ, suc, _-_}
 use mathlib.Core.Path.{_≡_}
 use mathlib.Core.Bool.{true}
-use mathlib.Core.List.{List}
 use lib.ListN.{length}
 use Rattle.records.specs.Soundness.{recordSound}
 use Rattle.record_laws.specs.SoundRecords.{undoing-sound}
-use Rattle.book.specs.Lines.{Line, left, undoneLines}
+use Rattle.book.specs.Lines.{left}
 use Rattle.book.specs.Books.{Book, surviving}
-use Rattle.book_laws.specs.Striking.{struckAll}
-use Rattle.book_laws.specs.Keeping.{SoundLines}
-use Rattle.book_laws.proofs.Members.{each-drop, in-filtered}
-use Rattle.book_laws.proofs.Folds.{strike-entry}
+use Rattle.book.specs.Feeding.{undoes}
+use Rattle.book_laws.specs.Keeping.{Runs, BookInv, SoundLines}
+use Rattle.book_laws.proofs.Members.{each-cons, each-drop, in-filtered}
 use Rattle.book_laws.proofs.Ends.{left-facts}
-use Rattle.book_laws.proofs.Undoing.{undone-lines, each-undoings, each-struck}
+use Rattle.book_laws.proofs.Undoing.{strikes-newest, strikes-each, newest}
+use Rattle.book_laws.proofs.Finishing.{undo-lines}
 use Rattle.book_laws.proofs.Stops.{stableLines, survives}
 
-pub undone-sound : (n i : ℕ) (ls : List Line) → SoundLines n ls → SoundLines n (undoneLines i (left i ls) ls)
-undone-sound n i ls h = rw (undone-lines i ls) (each-undoings i ls (struckAll i ls)
-    (λ l j e. undoing-sound n (l .entry) (h l j) (left-facts i l e .kind))
-    (each-struck i (λ l. recordSound n (l .entry) ≡ true) ls (λ l j. rw (strike-entry i l) (h l j))))
+pub undo-sound : (n : ℕ) (b : Book) (inv : BookInv b) (t : ℕ) (run : Runs b t) (k : ℕ) → left (b .running t) (b .lines) ≡ suc k → SoundLines n (b .lines) → SoundLines n (undoes b t .lines)
+undo-sound n b inv t run k some h = let i = b .running t in let l = newest i (b .lines) k some in rw (undo-lines b inv t run k some)
+    (each-cons (undoing-sound n (l .0 .entry) (h (l .0) (l .1 .there)) (left-facts i (l .0) (l .1 .is-left) .kind))
+    (strikes-each i (λ m. recordSound n (m .entry) ≡ true) (strikes-newest i (b .lines)) h (λ m j e. h m j)))
 
 pub stop-sound : (n : ℕ) (b : Book) → SoundLines n (b .lines) → SoundLines n (surviving b)
 unfolding surviving

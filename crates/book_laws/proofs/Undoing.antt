@@ -1,133 +1,116 @@
--- What an abort makes of the lines: the undoing lines on top of the lines with its changes struck out. Assumes nothing.
+-- Laws of lines struck out, and the newest line that is left. Assumes nothing.
 use Prim.Native.Nat.{ℕ, zero, suc, _+_}
 use native.Mathlib.Omega.{arith}
-use native.Mathlib.Nat.{add-zero}
-use native.Mathlib.Numerals.{add-one}
 use mathlib.Core.Path.{_≡_, refl, sym, ap, _∙_}
-use mathlib.Core.Bool.{Bool, true, false}
-use mathlib.Core.List.{List, [], _∷_, _++_, append-assoc}
+use mathlib.Core.Bool.{Bool, true, false, _&&_}
+use mathlib.Core.List.{List, [], _∷_}
 use lib.ListN.{length, drop}
 use lib.Dec.{eqb}
-use Rattle.words.specs.Tests.{by-bool, or-false-l, or-false-r}
-use Rattle.records.specs.Effects.{undoing}
-use Rattle.book.specs.Lines.{Line, line, struckOut, isLeft, left, struckNewest, undoingNewest, undoneLines, filtered}
-use Rattle.book_laws.specs.Striking.{strike, struckAll, undoingsOn, entries, undoingOnto}
+use Rattle.words.specs.Tests.{by-bool}
+use Rattle.records.specs.Records.{isCreate}
+use Rattle.book.specs.Lines.{Line, struckOut, isLeft, left, struckNewest, undoingNewest, newestCreates, filtered}
+use Rattle.book_laws.specs.Striking.{undoingLine, Strikes, none, stays, out, entries}
 use Rattle.book_laws.specs.Keeping.{In, here, later, Each, anyLine}
-use Rattle.book_laws.proofs.Members.{each-nil, each-cons}
-
--- the undoing line of a line of i
-abbrev pub undoingLine : ℕ → Line → Line
-undoingLine i l = struckOut (line (undoing (l .entry)) i)
+use Rattle.book_laws.proofs.Members.{each-cons}
 
 pub struck-not-left : (i : ℕ) (l : Line) → isLeft i (struckOut l) ≡ false
 struck-not-left i l = by-bool (eqb (l .owner) i) (λ e. rw e) (λ e. rw e)
 
-any-append : (f : Line → Bool) (a b : List Line) → anyLine f a ≡ false → anyLine f b ≡ false → anyLine f (a ++ b) ≡ false
-unfolding anyLine
-any-append f [] b p q = q
-any-append f (l ∷ a) b p q = rw (or-false-l (f l) (anyLine f a) p) (any-append f a b (or-false-r (f l) (anyLine f a) p) q)
-
 module _ (i : ℕ) where
-  -- lines of which none is left are passed over
-  past-undoing : (a ls rest : List Line) → anyLine (isLeft i) a ≡ false → undoingNewest i (a ++ ls) rest ≡ undoingNewest i ls rest
-  unfolding anyLine undoingNewest
-  past-undoing [] ls rest h = refl
-  past-undoing (l ∷ a) ls rest h = rw (or-false-l (isLeft i l) (anyLine (isLeft i) a) h) (past-undoing a ls rest (or-false-r (isLeft i l) (anyLine (isLeft i) a) h))
+  -- any list strikes itself; the newest that is left is struck out
+  pub strikes-none : (ls : List Line) → Strikes i ls ls
+  strikes-none [] = none
+  strikes-none (l ∷ ls) = stays (strikes-none ls)
 
-  past-strike : (a ls : List Line) → anyLine (isLeft i) a ≡ false → struckNewest i (a ++ ls) ≡ a ++ struckNewest i ls
-  unfolding anyLine struckNewest
-  past-strike [] ls h = refl
-  past-strike (l ∷ a) ls h = rw (or-false-l (isLeft i l) (anyLine (isLeft i) a) h) (ap (λ (r : List Line). l ∷ r) (past-strike a ls (or-false-r (isLeft i l) (anyLine (isLeft i) a) h)))
-
-  one : (l : Line) → isLeft i l ≡ false → anyLine (isLeft i) (l ∷ []) ≡ false
-  unfolding anyLine
-  one l e = rw e
-
-  more : (l : Line) (a : List Line) → isLeft i l ≡ false → anyLine (isLeft i) a ≡ false → anyLine (isLeft i) (l ∷ a) ≡ false
-  unfolding anyLine
-  more l a e h = rw e h
-
-  top : (l : Line) (ls rest : List Line) → isLeft i l ≡ true → undoingNewest i (l ∷ ls) rest ≡ undoingLine i l ∷ rest
-  unfolding undoingNewest
-  top l ls rest e = rw e
-
-  struck : (l : Line) (ls : List Line) → isLeft i l ≡ true → struckNewest i (l ∷ ls) ≡ struckOut l ∷ ls
+  pub strikes-newest : (ls : List Line) → Strikes i ls (struckNewest i ls)
   unfolding struckNewest
-  struck l ls e = rw e
+  strikes-newest [] = none
+  strikes-newest (l ∷ ls) = by-bool (isLeft i l) (λ e. rw e (out e (strikes-none ls))) (λ e. rw e (stays (strikes-newest ls)))
 
-  undoes : (a : List Line) (l : Line) (ls : List Line) → anyLine (isLeft i) a ≡ false → isLeft i l ≡ true
-      → undoingNewest i (a ++ (l ∷ ls)) (struckNewest i (a ++ (l ∷ ls))) ≡ undoingLine i l ∷ (a ++ (struckOut l ∷ ls))
-  undoes a l ls h e = past-undoing a (l ∷ ls) (struckNewest i (a ++ (l ∷ ls))) h ∙ top l ls (struckNewest i (a ++ (l ∷ ls))) e
-      ∙ ap (λ (r : List Line). undoingLine i l ∷ r) (past-strike a (l ∷ ls) h ∙ ap (λ (r : List Line). a ++ r) (struck l ls e))
+  pub strikes-length : {ls ms : List Line} → Strikes i ls ms → length ms ≡ length ls
+  strikes-length none = refl
+  strikes-length (stays s) = ap suc (strikes-length s)
+  strikes-length (out e s) = ap suc (strikes-length s)
 
-  undone-from : (a ls : List Line) → anyLine (isLeft i) a ≡ false → undoneLines i (left i ls) (a ++ ls) ≡ undoingsOn i ls (a ++ struckAll i ls)
-  unfolding left undoneLines undoingsOn struckAll
-  undone-from a [] h = refl
-  undone-from a (l ∷ ls) h = by-bool (isLeft i l)
-      (λ e. rw (e, add-one (left i ls))
-      (ap (undoneLines i (left i ls)) (undoes a l ls h e) ∙ ap (λ (r : List Line). undoneLines i (left i ls) (undoingLine i l ∷ r)) (sym (append-assoc a (struckOut l ∷ []) ls))
-      ∙ undone-from (undoingLine i l ∷ (a ++ (struckOut l ∷ []))) ls
-      (more (undoingLine i l) (a ++ (struckOut l ∷ [])) (struck-not-left i (line (undoing (l .entry)) i)) (any-append (isLeft i) a (struckOut l ∷ []) h (one (struckOut l) (struck-not-left i l))))
-      ∙ ap (λ (r : List Line). undoingsOn i ls (undoingLine i l ∷ r)) (append-assoc a (struckOut l ∷ []) (struckAll i ls))))
-      (λ e. rw (e, add-zero (left i ls)) (ap (λ (r : List Line). undoneLines i (left i ls) r) (sym (append-assoc a (l ∷ []) ls))
-      ∙ undone-from (a ++ (l ∷ [])) ls (any-append (isLeft i) a (l ∷ []) h (one l e))
-      ∙ ap (λ (r : List Line). undoingsOn i ls r) (append-assoc a (l ∷ []) (struckAll i ls))))
+  pub strikes-entries : {ls ms : List Line} → Strikes i ls ms → entries ms ≡ entries ls
+  unfolding entries
+  strikes-entries none = refl
+  strikes-entries (stays {l} s) = rw (strikes-entries s)
+  strikes-entries (out {l} e s) = rw (strikes-entries s)
 
-  pub undone-lines : (ls : List Line) → undoneLines i (left i ls) ls ≡ undoingsOn i ls (struckAll i ls)
+  pub strikes-drop : (j : ℕ) {ls ms : List Line} → Strikes i ls ms → Strikes i (drop j ls) (drop j ms)
+  strikes-drop zero s = s
+  strikes-drop (suc j) none = none
+  strikes-drop (suc j) (stays s) = strikes-drop j s
+  strikes-drop (suc j) (out e s) = strikes-drop j s
+
+  pub strikes-each : (P : Line → Type 0) {ls ms : List Line} → Strikes i ls ms → Each P ls → ((l : Line) → In l ls → isLeft i l ≡ true → P (struckOut l)) → Each P ms
+  strikes-each P none h k = h
+  strikes-each P (stays {l} s) h k = each-cons (h l here) (strikes-each P s (λ m j. h m (later j)) (λ m j. k m (later j)))
+  strikes-each P (out {l} e s) h k = each-cons (k l here e) (strikes-each P s (λ m j. h m (later j)) (λ m j. k m (later j)))
+
+  pub strikes-any : (f : Line → Bool) → ((l : Line) → f (struckOut l) ≡ f l) → {ls ms : List Line} → Strikes i ls ms → anyLine f ms ≡ anyLine f ls
   unfolding anyLine
-  undone-lines ls = undone-from [] ls refl
+  strikes-any f h none = refl
+  strikes-any f h (stays s) = rw (strikes-any f h s)
+  strikes-any f h (out {l} e s) = rw (h l, strikes-any f h s)
 
-  pub undoings-append : (ls rest : List Line) → undoingsOn i ls rest ≡ undoingsOn i ls [] ++ rest
-  unfolding undoingsOn
-  undoings-append [] rest = refl
-  undoings-append (l ∷ ls) rest = by-bool (isLeft i l)
-      (λ e. rw e (undoings-append ls (undoingLine i l ∷ rest) ∙ sym (append-assoc (undoingsOn i ls []) (undoingLine i l ∷ []) rest)
-      ∙ ap (λ (r : List Line). r ++ rest) (sym (undoings-append ls (undoingLine i l ∷ [])))))
-      (λ e. rw e (undoings-append ls rest))
+  -- l is the newest line that is left
+  pub record Newest (ls : List Line) (l : Line) : Type 0 where
+    pub there : In l ls
+    pub is-left : isLeft i l ≡ true
+    pub undoing : (rest : List Line) → undoingNewest i ls rest ≡ undoingLine i l ∷ rest
+    pub creates : (o : ℕ) → newestCreates i ls o ≡ (isCreate (l .entry) && eqb (l .entry .object) o)
+    pub rest : filtered (isLeft i) ls ≡ l ∷ filtered (isLeft i) (struckNewest i ls)
 
-  pub undoings-length : (ls rest : List Line) → length (undoingsOn i ls rest) ≡ left i ls + length rest
-  unfolding undoingsOn left
-  undoings-length [] rest = omega arith
-  undoings-length (l ∷ ls) rest = by-bool (isLeft i l)
-      (λ e. rw e (undoings-length ls (undoingLine i l ∷ rest) ∙ omega arith))
-      (λ e. rw e (undoings-length ls rest ∙ omega arith))
+  pub newest-here : (l : Line) (ls : List Line) → isLeft i l ≡ true → Newest (l ∷ ls) l
+  unfolding undoingNewest newestCreates struckNewest filtered
+  newest-here l ls e = record { there = here; is-left = e; undoing = λ rest. rw e; creates = λ o. rw e; rest = rw (e, struck-not-left i l) }
 
-  -- every line of them
-  pub each-undoings : {P : Line → Type 0} (ls rest : List Line) → ((l : Line) → In l ls → isLeft i l ≡ true → P (undoingLine i l)) → Each P rest → Each P (undoingsOn i ls rest)
-  unfolding undoingsOn
-  each-undoings [] rest h k = k
-  each-undoings (l ∷ ls) rest h k = by-bool (isLeft i l)
-      (λ e. rw e (each-undoings ls (undoingLine i l ∷ rest) (λ m j. h m (later j)) (each-cons (h l here e) k)))
-      (λ e. rw e (each-undoings ls rest (λ m j. h m (later j)) k))
+  pub struck-here : (l : Line) (ls : List Line) → isLeft i l ≡ true → struckNewest i (l ∷ ls) ≡ struckOut l ∷ ls
+  unfolding struckNewest
+  struck-here l ls e = rw e
 
-  pub each-struck : (P : Line → Type 0) (ls : List Line) → ((l : Line) → In l ls → P (strike i l)) → Each P (struckAll i ls)
-  unfolding struckAll
-  each-struck P [] h = each-nil P
-  each-struck P (l ∷ ls) h = each-cons (h l here) (each-struck P ls (λ m j. h m (later j)))
+  filtered-out : (l : Line) (ls : List Line) → isLeft i l ≡ false → filtered (isLeft i) (l ∷ ls) ≡ filtered (isLeft i) ls
+  unfolding filtered
+  filtered-out l ls e = rw e
 
-  pub drop-struck : (j : ℕ) (ls : List Line) → drop j (struckAll i ls) ≡ struckAll i (drop j ls)
-  unfolding struckAll
-  drop-struck zero ls = refl
-  drop-struck (suc j) [] = refl
-  drop-struck (suc j) (l ∷ ls) = drop-struck j ls
+  pub struck-past : (l : Line) (ls : List Line) → isLeft i l ≡ false → struckNewest i (l ∷ ls) ≡ l ∷ struckNewest i ls
+  unfolding struckNewest
+  struck-past l ls e = rw e
 
-  -- their records: the undoing records on top of the old records, in the order in which an abort appends them
-  entries-undoings : (ls rest : List Line) → entries (undoingsOn i ls rest) ≡ undoingOnto (entries (filtered (isLeft i) ls)) (entries rest)
-  unfolding undoingsOn entries undoingOnto filtered
-  entries-undoings [] rest = refl
-  entries-undoings (l ∷ ls) rest = by-bool (isLeft i l)
-      (λ e. rw e (entries-undoings ls (undoingLine i l ∷ rest)))
-      (λ e. rw e (entries-undoings ls rest))
+  pub newest-past : (l : Line) (ls : List Line) (m : Line) → isLeft i l ≡ false → Newest ls m → Newest (l ∷ ls) m
+  unfolding undoingNewest newestCreates
+  newest-past l ls m e n = record {
+    there = later (n .there);
+    is-left = n .is-left;
+    undoing = λ rest. rw e (n .undoing rest);
+    creates = λ o. rw e (n .creates o);
+    rest = filtered-out l ls e ∙ n .rest ∙ ap (λ (r : List Line). m ∷ r) (sym (ap (filtered (isLeft i)) (struck-past l ls e) ∙ filtered-out l (struckNewest i ls) e));
+  }
 
-  pub entries-struck : (ls : List Line) → entries (struckAll i ls) ≡ entries ls
-  unfolding struckAll entries
-  entries-struck [] = refl
-  entries-struck (l ∷ ls) = by-bool (isLeft i l) (λ e. rw (e, entries-struck ls)) (λ e. rw (e, entries-struck ls))
-
-  pub entries-undone : (ls : List Line) → entries (undoneLines i (left i ls) ls) ≡ undoingOnto (entries (filtered (isLeft i) ls)) (entries ls)
-  entries-undone ls = ap entries (undone-lines ls) ∙ entries-undoings ls (struckAll i ls) ∙ ap (undoingOnto (entries (filtered (isLeft i) ls))) (entries-struck ls)
+  pub newest : (ls : List Line) (k : ℕ) → left i ls ≡ suc k → (l : Line) × Newest ls l
+  unfolding left
+  newest [] k h = absurd (omega arith)
+  newest (l ∷ ls) k h = by-bool (isLeft i l)
+      (λ e. (l, newest-here l ls e))
+      (λ e. let n = newest ls k (let d : left i ls + 0 ≡ suc k = rw e at h in omega arith) in (n .0, newest-past l ls (n .0) e (n .1)))
 
   pub left-length : (ls : List Line) → length (filtered (isLeft i) ls) ≡ left i ls
   unfolding filtered left
   left-length [] = refl
   left-length (l ∷ ls) = let h = left-length ls in by-bool (isLeft i l) (λ e. rw e (omega arith)) (λ e. rw e (omega arith))
+
+  pub left-less : (ls : List Line) (k : ℕ) → left i ls ≡ suc k → left i (struckNewest i ls) ≡ k
+  left-less ls k h = let e = left-length ls in let d = left-length (struckNewest i ls) in let f : length (filtered (isLeft i) ls) ≡ suc (length (filtered (isLeft i) (struckNewest i ls))) = ap length (newest ls k h .1 .rest) in omega arith
+
+  -- there is one such line
+  pub newest-one : (ls : List Line) (l m : Line) → Newest ls l → Newest ls m → l ≡ m
+  newest-one ls l m p q = let e : l ∷ filtered (isLeft i) (struckNewest i ls) ≡ m ∷ filtered (isLeft i) (struckNewest i ls) = sym (p .rest) ∙ q .rest in cc
+
+  -- where nothing is left no line is
+  pub none-left : (ls : List Line) → left i ls ≡ 0 → (l : Line) → In l ls → isLeft i l ≡ false
+  unfolding left
+  none-left (m ∷ ls) h l j = by-bool (isLeft i m)
+      (λ e. absurd (let d : left i ls + 1 ≡ 0 = rw e at h in omega arith))
+      (λ e. let d : left i ls + 0 ≡ 0 = rw e at h in each-cons {P = λ l. isLeft i l ≡ false} e (none-left ls (omega arith)) l j)

@@ -8,11 +8,9 @@ use lib.ListN.{length}
 use lib.Dec.{eqb}
 use Rattle.pages.specs.Geometry.{pageOf, pageWords}
 use Rattle.pages.specs.Soundness.{areaSound}
-use Rattle.records.specs.declared.Record.{Record}
-use Rattle.records.specs.Records.{isBegin, isChange, isEnd, isSweep, txnCount}
+use Rattle.records.specs.Records.{isBegin, isEnd, isSweep, txnCount}
 use Rattle.records.specs.Soundness.{recordSound}
-use Rattle.words.specs.Tests.{if}
-use Rattle.calls.specs.Calls.{Call, begin, commit, abort, lockRead, lockWrite, read, create, setWord, flush, force, store, empty, pass, step, reopen, restep, look}
+use Rattle.calls.specs.Calls.{Call, begin, commit, abort, lockRead, lockWrite, read, create, setWord, flush, force, store, empty, pass, step, reopen, restep, mark, back, look}
 use Rattle.book.specs.Lines.{Line, isLeft, hasEnd}
 use Rattle.book.specs.Books.{Book, runs}
 
@@ -59,8 +57,7 @@ pub record LineOk (b : Book) (l : Line) : Type 0 where
   -- an uncreate is struck out; an end is not
   pub undoes : l .entry .kind ≡ 6 → l .struck ≡ true
   pub ends : isEnd (l .entry) ≡ true → l .struck ≡ false
-  -- nothing is struck out while its transaction runs, and its records name the transaction
-  pub stands : (t : ℕ) → Runs b t → l .owner ≡ b .running t → l .struck ≡ false
+  -- the records of a running transaction name it
   pub names : (t : ℕ) → Runs b t → l .owner ≡ b .running t → l .entry .txn ≡ t
   -- what does not run has ended
   pub over : isSweep (l .entry) ≡ false → runs b (l .owner) ≡ false → hasEnd (l .owner) (b .lines) ≡ true
@@ -69,11 +66,6 @@ pub record LineOk (b : Book) (l : Line) : Type 0 where
 pub data Since (t i : ℕ) : List Line → Type 0 where
   atBegin : {l : Line} {ls : List Line} → isBegin (l .entry) t ≡ true → l .owner ≡ i → Each (λ m. m .owner ≡ i → ⊥) ls → Since t i (l ∷ ls)
   newer : {l : Line} {ls : List Line} → isBegin (l .entry) t ≡ false → (isSweep (l .entry) ≡ false → l .entry .txn ≡ t → l .owner ≡ i) → Since t i ls → Since t i (l ∷ ls)
-
--- t's creates and sets since its last begin, newest first
-unfoldable pub changesSince : ℕ → List Line → List Record
-changesSince t [] = []
-changesSince t (l ∷ ls) = let on = changesSince t ls in if (isBegin (l .entry) t) [] (if (isChange (l .entry) t) (l .entry ∷ on) on)
 
 pub record BookInv (b : Book) : Type 0 where
   pub distinct : (t u : ℕ) → Runs b t → b .running t ≡ b .running u → t ≡ u
@@ -111,4 +103,6 @@ Expects b pass = Unit
 Expects b step = Unit
 Expects b reopen = Unit
 Expects b restep = Unit
+Expects b (mark t m) = Unit
+Expects b (back t m) = Runs b t
 Expects b (look q) = Unit

@@ -3,7 +3,7 @@ use Prim.Native.Nat.{ℕ, _+_, _*_, _≤_}
 use native.Mathlib.Omega.{arith}
 use mathlib.Core.Path.{_≡_, ap, _∙_}
 use Rattle.areas.specs.declared.Refusal.{Refusal}
-use Rattle.areas.specs.declared.Refusal.the-variants.{Malformed, NotOpen, OutOfRange, WrongState, NotLocked, Held, Unknown, Occupied, Differs, Unflushed, LogFull, Unstable, InUse, Unsound, Free}
+use Rattle.areas.specs.declared.Refusal.the-variants.{Malformed, NotOpen, OutOfRange, WrongState, NotLocked, Held, Unknown, Occupied, Differs, Unflushed, LogFull, Unstable, InUse, Unsound, Free, Unmarked}
 use Rattle.areas.specs.declared.Answer.{Answer}
 use Rattle.areas.specs.declared.Answer.the-variants.{Done, Refused}
 use Rattle.areas.specs.Answers.{numberOf, answerOf, valueOf}
@@ -30,6 +30,7 @@ number-small Unstable = omega arith
 number-small InUse = omega arith
 number-small Unsound = omega arith
 number-small Free = omega arith
+number-small Unmarked = omega arith
 
 pub answer-small : (a : Answer) → answerOf a ≤ 24
 answer-small (Done v) = omega arith

@@ -32,7 +32,7 @@ dated-abort s t n g i = record {
     born : (u x : ℕ) → eqb u t ≡ false → s .tables .kn u x ≡ true → aborted s t n .tags .recTag x .born ≡ s .tags .recTag x .born
     born u x d j = by-bool (owns s t x)
         (λ e. rw e (elim (i .known .knows u x j) [
-          | inl c ↦ absurd (eqb-false u t d (i .exclusive .sole u t (pageOf x) (i .known .made u x c .own) e))
+          | inl c ↦ absurd (eqb-false u t d (i .exclusive .sole u t (pageOf x) (i .known .made u x (c .0) .own) e))
           | inr p ↦ sym (i .dated .sameBorn x (i .whole .wf x (reach p)))
         ]))
         (λ e. rw e refl)
@@ -57,9 +57,9 @@ keep-abort s t n g i = record {
   known = record {
     wrote = λ u o x w e. let f = others s t i u o w in rw (drop-is (s .tables .kn) t u x (f .2)) (i .known .wrote u o x (f .0) (rw (f .1) at e));
     knows = λ u x h. let d = drop-other (s .tables .kn) t u x h in elim (i .known .knows u x (drop-old (s .tables .kn) t u x h))
-        [ inl c ↦ inl (rw (drop-is (s .tables .cot) t u x d) c) | inr p ↦ inr (path-mono (λ o q l. (holds-other s t i u o d l .0, λ y k. k)) p) ];
+        [ inl c ↦ inl (rw (drop-is (s .tables .cot) t u x d) (c .0), rw (others-page s t i u x (i .known .made u x (c .0) .own) d) (c .1)) | inr p ↦ inr (path-mono (λ o q l. (holds-other s t i u o d l .0, λ y k. k)) p) ];
     made = λ u o h. let m = i .known .made u o (drop-old (s .tables .cot) t u o h) in let d = drop-other (s .tables .cot) t u o h in
-        record { own = rw (drop-is (s .locks .wr) t u (pageOf o) d) (m .own); out = m .out; there = rw (others-page s t i u o (m .own) d) (m .there); ranged = m .ranged };
+        record { own = rw (drop-is (s .locks .wr) t u (pageOf o) d) (m .own); out = m .out; ranged = m .ranged };
   };
   dated = dated-abort s t n g i;
   marks = λ r. let m = i .marks r in record {

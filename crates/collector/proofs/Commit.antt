@@ -35,20 +35,20 @@ module _ (s : St) (t : ℕ) (i : Inv s) where
       (λ w. elim (i .prune .keptR t o x w e) [ inl k ↦ inl (rw w k) | inr k ↦ inr (writer-bound (i .exclusive) t (pageOf o) w, k) ])
       (λ w. inl (rw w e))
 
-  reached : {x : ℕ} → Reach (cmt′ s t) x → Reach (s .pages .cmt) x ⊎ (s .tables .cot t x ≡ true)
+  reached : {x : ℕ} → Reach (cmt′ s t) x → Reach (s .pages .cmt) x ⊎ ((s .tables .cot t x ≡ true) × (s .pages .rec x .occ ≡ true))
   reached root = inl root
   reached (edge {o} {x} p h e) = elim (came o x e) [
-    | inl k ↦ elim (reached p) [ inl r ↦ inl (edge r refl k) | inr c ↦ unoccupied (s .pages .cmt o) x (i .known .made t o c .out) k ]
+    | inl k ↦ elim (reached p) [ inl r ↦ inl (edge r refl k) | inr c ↦ unoccupied (s .pages .cmt o) x (i .known .made t o (c .0) .out) k ]
     | inr k ↦ elim (i .known .knows t x k) [ inl c ↦ inr c | inr q ↦ inl (reach q) ]
   ]
 
   -- what is reached is received and committed
   received-there : {x : ℕ} → Reach (cmt′ s t) x → s .pages .rec x .occ ≡ true
-  received-there {x} p = elim (reached p) [ inl r ↦ i .agreed .keeps x (i .whole .wf x r) | inr c ↦ i .known .made t x c .there ]
+  received-there {x} p = elim (reached p) [ inl r ↦ i .agreed .keeps x (i .whole .wf x r) | inr c ↦ c .1 ]
 
   committed-there : {x : ℕ} → Reach (cmt′ s t) x → cmt′ s t x .occ ≡ true
   committed-there {x} p = by-bool (owns s t x) (λ w. rw w (received-there p))
-      (λ w. rw w (elim (reached p) [ inl r ↦ i .whole .wf x r | inr c ↦ clash (i .known .made t x c .own) w ]))
+      (λ w. rw w (elim (reached p) [ inl r ↦ i .whole .wf x r | inr c ↦ clash (i .known .made t x (c .0) .own) w ]))
 
   -- a committed object is as old in the new committed state
   born : (x : ℕ) → s .pages .cmt x .occ ≡ true → tag′ s t x .born ≡ s .tags .cmtTag x .born
@@ -62,10 +62,10 @@ module _ (s : St) (t : ℕ) (i : Inv s) where
   -- a word on t's pages
   new-leads : (o f : ℕ) → TaggedIn s t o f → Reach (cmt′ s t) o
       → (s .pages .rec o .word f ≡ 0 → ⊥) → tag′ s t (s .pages .rec o .word f) .born ≤ s .tags .recTag o .time f
-  new-leads o f (before a j y w) p z = elim (reached p) [ inl r ↦ rw (y, w) (old-leads o f r j (rw y at z)) | inr c ↦ clash a (i .known .made t o c .out) ]
+  new-leads o f (before a j y w) p z = elim (reached p) [ inl r ↦ rw (y, w) (old-leads o f r j (rw y at z)) | inr c ↦ clash a (i .known .made t o (c .0) .out) ]
   new-leads o f (empty a) p z = absurd (z a)
   new-leads o f (stored a y) p z = elim (i .known .knows t (s .pages .rec o .word f) a) [
-    | inl c ↦ rw (i .known .made t (s .pages .rec o .word f) c .own) y
+    | inl c ↦ rw (i .known .made t (s .pages .rec o .word f) (c .0) .own) y
     | inr q ↦ (let k = i .whole .wf _ (reach q) in rw (born (s .pages .rec o .word f) k, ← (i .dated .sameBorn (s .pages .rec o .word f) k)) y)
   ]
 
@@ -91,7 +91,7 @@ whole-commit : (s : St) (t n : ℕ) → s .tags .now ≤ n → Inv s → Whole (
 whole-commit s t n l i = record {
   leads = λ o f p r z. by-bool (owns s t o)
       (λ e. rw e (new-leads s t i o f (i .dated .tagged t o f e (received-there s t i p) (rw e at r)) p (rw e at z)))
-      (λ e. rw e (elim (reached s t i p) [ inl k ↦ old-leads s t i o f k (rw e at r) (rw e at z) | inr c ↦ clash (i .known .made t o c .own) e ]));
+      (λ e. rw e (elim (reached s t i p) [ inl k ↦ old-leads s t i o f k (rw e at r) (rw e at z) | inr c ↦ clash (i .known .made t o (c .0) .own) e ]));
   young = λ x h. le-trans (by-bool (owns s t x) (λ e. rw e (i .dated .young x (rw e at h))) (λ e. rw e (i .whole .young x (rw e at h)))) l;
   range = λ o x e. elim (came s t i o x e) [ inl k ↦ i .whole .range o x k | inr k ↦ known-range s i t x k ];
   wf = λ x p. committed-there s t i p;
@@ -128,11 +128,11 @@ keep-commit s t n g i = record {
   known = record {
     wrote = λ u o x w e. let f = others s t i u o w in rw (f .1, drop-is (s .tables .kn) t u x (f .2)) (i .known .wrote u o x (f .0) e);
     knows = λ u x h. let d = drop-other (s .tables .kn) t u x h in elim (i .known .knows u x (drop-old (s .tables .kn) t u x h)) [
-      | inl c ↦ inl (rw (drop-is (s .tables .cot) t u x d) c)
+      | inl c ↦ inl (rw (drop-is (s .tables .cot) t u x d) (c .0), c .1)
       | inr p ↦ inr (path-mono (λ o q l. let k = holds-other s t i u o d l in (k .0, λ y e. rw (k .1) e)) p)
     ];
     made = λ u o h. let m = i .known .made u o (drop-old (s .tables .cot) t u o h) in let d = drop-other (s .tables .cot) t u o h in
-        record { own = rw (drop-is (s .locks .wr) t u (pageOf o) d) (m .own); out = rw (others-page s t i u o (m .own) d) (m .out); there = m .there; ranged = m .ranged };
+        record { own = rw (drop-is (s .locks .wr) t u (pageOf o) d) (m .own); out = rw (others-page s t i u o (m .own) d) (m .out); ranged = m .ranged };
   };
   dated = dated-commit s t n (g .line) i;
   marks = λ r. let m = i .marks r in record {

@@ -43,21 +43,21 @@ pub record Pruned (n : ℕ) (K R C : ℕ → Obj) (wr prt dirty : ℕ → ℕ �
   -- a page flushed since the last write is copied as received (commit)
   pub clean : (t o : ℕ) → wr t (pageOf o) ≡ true → dirty t (pageOf o) ≡ false → C o ≡ R o
 
--- o is an object that t created
-pub record Made (n : ℕ) (K R : ℕ → Obj) (wr : ℕ → ℕ → Bool) (t o : ℕ) : Type 0 where
+-- o is an object that t created; going back may have freed it since
+pub record Made (n : ℕ) (K : ℕ → Obj) (wr : ℕ → ℕ → Bool) (t o : ℕ) : Type 0 where
   pub own : wr t (pageOf o) ≡ true
   pub out : K o .occ ≡ false
-  pub there : R o .occ ≡ true
   pub ranged : o ≤ n
 
 -- what a transaction knows
 pub record Known (n : ℕ) (K R : ℕ → Obj) (rd wr kn cot : ℕ → ℕ → Bool) : Type 0 where
   -- a received reference is a committed one, or its writer knows the target (read, commit)
   pub wrote : (t o x : ℕ) → wr t (pageOf o) ≡ true → points (R o) x ≡ true → (points (K o) x ≡ true) ⊎ (kn t x ≡ true)
-  -- what t knows it created, or it is reached in the committed state through pages that t holds: no other can cut the way (commit)
-  pub knows : (t x : ℕ) → kn t x ≡ true → (cot t x ≡ true) ⊎ Path K (holds wr rd t) x
+  -- what t knows it created and it is there, or it is reached in the committed state through pages that t holds: no other can cut the way
+  -- (commit)
+  pub knows : (t x : ℕ) → kn t x ≡ true → ((cot t x ≡ true) × (R x .occ ≡ true)) ⊎ Path K (holds wr rd t) x
   -- a COT entry is of an object that its transaction created (create, commit, pass)
-  pub made : (t o : ℕ) → cot t o ≡ true → Made n K R wr t o
+  pub made : (t o : ℕ) → cot t o ≡ true → Made n K wr t o
 
 -- the colours of a running pass; made: objects with a COT entry
 pub record Marked (ph : Phase) (col : ℕ → Colour) (K : ℕ → Obj) (prt : ℕ → ℕ → Bool) (made : ℕ → Bool) : Type 0 where

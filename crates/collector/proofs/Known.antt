@@ -44,14 +44,14 @@ dated-on h g d = record {
 
 module _ (s : St) (i : Inv s) where
   pub known-there : (t x : ℕ) → s .tables .kn t x ≡ true → s .pages .rec x .occ ≡ true
-  known-there t x k = elim (i .known .knows t x k) [ inl c ↦ i .known .made t x c .there | inr p ↦ i .agreed .keeps x (i .whole .wf x (reach p)) ]
+  known-there t x k = elim (i .known .knows t x k) [ inl c ↦ c .1 | inr p ↦ i .agreed .keeps x (i .whole .wf x (reach p)) ]
 
   path-range : {q : ℕ → Bool} {x : ℕ} → Path (s .pages .cmt) q x → x ≤ objects s
   path-range root = i .agreed .one
   path-range (edge {o} {x} p h e) = i .whole .range o x e
 
   pub known-range : (t x : ℕ) → s .tables .kn t x ≡ true → x ≤ objects s
-  known-range t x k = elim (i .known .knows t x k) [ inl c ↦ i .known .made t x c .ranged | inr p ↦ path-range p ]
+  known-range t x k = elim (i .known .knows t x k) [ inl c ↦ i .known .made t x (c .0) .ranged | inr p ↦ path-range p ]
 
   -- a received reference is a committed one, or the page's writer knows the target
   pub received : {A : Type 0} (o x : ℕ) → points (s .pages .rec o) x ≡ true
@@ -66,7 +66,7 @@ module _ (s : St) (i : Inv s) where
   -- a committed reference of an object that t knows, on a page that t holds, is known in the same way
   pub follows : (t o x : ℕ) → s .tables .kn t o ≡ true → holds (s .locks .wr) (s .locks .rd) t (pageOf o) ≡ true → points (s .pages .cmt o) x ≡ true
       → Path (s .pages .cmt) (holds (s .locks .wr) (s .locks .rd) t) x
-  follows t o x k h e = elim (i .known .knows t o k) [ inl c ↦ unoccupied (s .pages .cmt o) x (i .known .made t o c .out) e | inr p ↦ edge p h e ]
+  follows t o x k h e = elim (i .known .knows t o k) [ inl c ↦ unoccupied (s .pages .cmt o) x (i .known .made t o (c .0) .out) e | inr p ↦ edge p h e ]
 
   -- the writer of a page that t holds is t
   pub held : (t u p : ℕ) → holds (s .locks .wr) (s .locks .rd) t p ≡ true → s .locks .wr u p ≡ true → u ≡ t

@@ -15,6 +15,9 @@ pub mod Reached
 pub mod Commit
 pub mod Mark
 pub mod Sweep
+pub mod Worlds
+pub mod Depths
+pub mod Pushing
 pub mod Rest
 pub mod Steps
 pub mod Safety

@@ -1,19 +1,19 @@
--- Begin, the locks and read keep the invariant. Assumes nothing.
+-- Begin, the locks and learning keep the invariant. Assumes nothing.
 use Prim.Native.Nat.{ℕ}
 use native.Mathlib.Nat.{le-refl}
 use mathlib.Core.Path.{_≡_, sym, ap, _∙_}
-use mathlib.Core.Bool.{true, false}
+use mathlib.Core.Bool.{Bool, true, false}
 use mathlib.Core.Logic.{_⊎_, inl, inr}
 use lib.Dec.{eqb}
 use borrow.Author.Tests.{eqb-true, ne-eqb}
 use Rattle.collector.specs.Bits.{_and_, by-bool, clash, and-l, and-r, or-l, or-r, or-cases, not-true}
-use Rattle.collector.specs.Objects.{points, pageOf, Path, root}
+use Rattle.collector.specs.Objects.{points, pageOf, root}
 use Rattle.collector.specs.State.{St, add, remove, holds}
-use Rattle.collector.specs.Calls.{begun, readLocked, writeLocked, readBy}
+use Rattle.collector.specs.Calls.{begun, readLocked, writeLocked, learning}
 use Rattle.collector.proofs.Objects.{path-mono}
 use Rattle.collector.proofs.Invariant.{Unwritten, before, Inv}
 use Rattle.collector.proofs.Tables.{is-false, add-cases, remove-same, remove-other, writer-bound}
-use Rattle.collector.proofs.Facts.{BeginFacts, LockrFacts, LockwFacts, ReadFacts}
+use Rattle.collector.proofs.Facts.{BeginFacts, LockrFacts, LockwFacts, LearnFacts, ReadFacts}
 use Rattle.collector.proofs.Known.{whole-on, dated-on, follows, held, received}
 
 pub keep-begin : (s : St) (t n : ℕ) → BeginFacts s t n → Inv s → Inv (begun s t n)
@@ -109,7 +109,7 @@ keep-lockw s t p g i = record {
   known = record {
     wrote = λ v o x w e. elim (old v (pageOf o) w) [ inl k ↦ i .known .wrote v o x k e | inr k ↦ inl (rw (i .agreed .freeR o (k .2)) at e) ];
     knows = λ u x h. elim (i .known .knows u x h) [ inl e ↦ inl e | inr e ↦ inr (path-mono (λ o k l. (wider u o l, λ y d. d)) e) ];
-    made = λ u o h. let m = i .known .made u o h in record { own = or-l _ _ (m .own); out = m .out; there = m .there; ranged = m .ranged };
+    made = λ u o h. let m = i .known .made u o h in record { own = or-l _ _ (m .own); out = m .out; ranged = m .ranged };
   };
   dated = record {
     freeT = λ o w. i .dated .freeT o (before-lock (pageOf o) w);
@@ -147,21 +147,24 @@ keep-lockw s t p g i = record {
           (λ d. or-r _ _ (rw (remove-other (s .locks .rd) t p u (pageOf o) d) e))
     ]
 
-pub keep-read : (s : St) (t o : ℕ) → ReadFacts s t o → Inv s → Inv (readBy s t o)
-keep-read s t o g i = record {
+pub keep-learn : (s : St) (t : ℕ) (q : ℕ → Bool) → LearnFacts s t q → Inv s → Inv (learning s t q)
+keep-learn s t q g i = record {
   whole = i .whole;
   exclusive = i .exclusive;
   agreed = i .agreed;
   prune = i .prune;
   known = record {
-    wrote = λ u q x w e. elim (i .known .wrote u q x w e) [ inl k ↦ inl k | inr k ↦ inr (or-l _ _ k) ];
-    knows = λ u x h. elim (or-cases _ _ h) [ inl e ↦ i .known .knows u x e | inr e ↦ rw (eqb-true u t (and-l _ _ e)) (learns x (and-r _ _ e)) ];
+    wrote = λ u o x w e. elim (i .known .wrote u o x w e) [ inl k ↦ inl k | inr k ↦ inr (or-l _ _ k) ];
+    knows = λ u x h. elim (or-cases _ _ h) [ inl e ↦ i .known .knows u x e | inr e ↦ rw (eqb-true u t (and-l _ _ e)) (g .knows x (and-r _ _ e)) ];
     made = i .known .made;
   };
-  dated = dated-on (le-refl _) (λ u q x w k. or-l _ _ k) (i .dated);
+  dated = dated-on (le-refl _) (λ u o x w k. or-l _ _ k) (i .dated);
   marks = i .marks;
   counted = i .counted;
 }
-  where
-    learns : (x : ℕ) → points (s .pages .rec o) x ≡ true → (s .tables .cot t x ≡ true) ⊎ Path (s .pages .cmt) (holds (s .locks .wr) (s .locks .rd) t) x
-    learns x e = received s i o x e (λ k. inr (follows s i t o x (g .known) (g .lock) k)) (λ u w k. i .known .knows t x (rw (held s i t u (pageOf o) (g .lock) w) at k))
+
+-- what t reads it may come to know
+pub read-learns : (s : St) (t o : ℕ) → ReadFacts s t o → Inv s → LearnFacts s t (points (s .pages .rec o))
+read-learns s t o g i = record {
+  knows = λ x e. received s i o x e (λ k. inr (follows s i t o x (g .known) (g .lock) k)) (λ u w k. i .known .knows t x (rw (held s i t u (pageOf o) (g .lock) w) at k));
+}

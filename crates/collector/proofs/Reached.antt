@@ -24,6 +24,6 @@ module _ {ph : Phase} {col : ℕ → Colour} {K : ℕ → Obj} {prt : ℕ → �
 pub known-safe : (s : St) (i : Inv s) → isIdle (s .pass .phase) ≡ false → (t x : ℕ) → s .tables .kn t x ≡ true
     → SafeIn s x
 known-safe s i r t x k = elim (i .known .knows t x k) [
-  | inl c ↦ new (or-l _ _ (anyb-intro _ _ t (writer-bound (i .exclusive) t (pageOf x) (i .known .made t x c .own)) c))
+  | inl c ↦ new (or-l _ _ (anyb-intro _ _ t (writer-bound (i .exclusive) t (pageOf x) (i .known .made t x (c .0) .own)) (c .0)))
   | inr p ↦ path-safe (i .marks r) p
 ]

@@ -15,14 +15,14 @@ use Rattle.collector.proofs.Known.{target, received}
 use Rattle.collector.proofs.Sweep.{spared-reached, spared-known}
 
 -- what the full pages reach is committed and reached, or made by a transaction that runs
-full-reach : (s : St) → Inv s → {x : ℕ} → Reach (s .pages .rec) x → Reach (s .pages .cmt) x ⊎ ((t : ℕ) × (s .tables .cot t x ≡ true))
+full-reach : (s : St) → Inv s → {x : ℕ} → Reach (s .pages .rec) x → Reach (s .pages .cmt) x ⊎ ((t : ℕ) × ((s .tables .cot t x ≡ true) × (s .pages .rec x .occ ≡ true)))
 full-reach s i root = inl root
 full-reach s i (edge {o} {x} p h e) = let b = full-reach s i p in received s i o x e
-    (λ k. elim b [ inl r ↦ inl (edge r refl k) | inr c ↦ unoccupied (s .pages .cmt o) x (i .known .made (c .0) o (c .1) .out) k ])
+    (λ k. elim b [ inl r ↦ inl (edge r refl k) | inr c ↦ unoccupied (s .pages .cmt o) x (i .known .made (c .0) o (c .1 .0) .out) k ])
     (λ t w k. elim (i .known .knows t x k) [ inl c ↦ inr (t, c) | inr q ↦ inl (reach q) ])
 
 full-there : (s : St) → Inv s → {x : ℕ} → Reach (s .pages .rec) x → s .pages .rec x .occ ≡ true
-full-there s i {x} p = elim (full-reach s i p) [ inl r ↦ i .agreed .keeps x (i .whole .wf x r) | inr c ↦ i .known .made (c .0) x (c .1) .there ]
+full-there s i {x} p = elim (full-reach s i p) [ inl r ↦ i .agreed .keeps x (i .whole .wf x r) | inr c ↦ c .1 .1 ]
 
 full-leads : (s : St) → Inv s → Leads (s .pages .rec) (s .tags .recTag)
 full-leads s i = record {
@@ -30,7 +30,7 @@ full-leads s i = record {
   since = λ o f p j z. by-writer (i .exclusive) (pageOf o)
       (λ w. elim (full-reach s i p) [
         | inl r ↦ (let k = i .agreed .freeR o w in old o f r (rw k at j) z (ap (λ b. b .word f) k) (ap (λ b. b .time f) (i .dated .freeT o w)))
-        | inr c ↦ clash (i .known .made (c .0) o (c .1) .own) (w (c .0))
+        | inr c ↦ clash (i .known .made (c .0) o (c .1 .0) .own) (w (c .0))
       ])
       (λ t w. go t o f p z (i .dated .tagged t o f w (full-there s i p) j));
 }
@@ -42,7 +42,7 @@ full-leads s i = record {
 
     go : (t o f : ℕ) → Reach (s .pages .rec) o → (s .pages .rec o .word f ≡ 0 → ⊥) → TaggedIn s t o f
         → s .tags .recTag (s .pages .rec o .word f) .born ≤ s .tags .recTag o .time f
-    go t o f p z (before a j y w) = elim (full-reach s i p) [ inl r ↦ old o f r j z y w | inr c ↦ clash a (i .known .made (c .0) o (c .1) .out) ]
+    go t o f p z (before a j y w) = elim (full-reach s i p) [ inl r ↦ old o f r j z y w | inr c ↦ clash a (i .known .made (c .0) o (c .1 .0) .out) ]
     go t o f p z (empty a) = absurd (z a)
     go t o f p z (stored a y) = y
 

@@ -117,9 +117,12 @@ keep-sweep s m g i = record {
   };
   known = record {
     wrote = λ t o x w e. let l = spared-page s m g i t o w in rw l (i .known .wrote t o x w (rw l at e));
-    knows = λ t x h. elim (i .known .knows t x h) [ inl c ↦ inl c | inr p ↦ inr (path-mono (λ o q l. (l, λ y d. rw (spared-reached s i (g .phase) q) d)) p) ];
+    knows = λ t x h. elim (i .known .knows t x h) [
+      | inl c ↦ inl (c .0, rw (spared-page s m g i t x (i .known .made t x (c .0) .own)) (c .1))
+      | inr p ↦ inr (path-mono (λ o q l. (l, λ y d. rw (spared-reached s i (g .phase) q) d)) p)
+    ];
     made = λ t o h. let k = i .known .made t o h in let l = spared-page s m g i t o (k .own) in
-        record { own = k .own; out = rw l (k .out); there = rw l (k .there); ranged = k .ranged };
+        record { own = k .own; out = rw l (k .out); ranged = k .ranged };
   };
   dated = dated-sweep s m g i;
   marks = λ k. let a = was s i (g .phase) in record {

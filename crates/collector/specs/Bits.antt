@@ -3,7 +3,7 @@ use Prim.Native.Nat.{ℕ, zero, suc, _+_, _≤_, _<_}
 use native.Mathlib.Omega.{arith}
 use native.Mathlib.Nat.{not-suc-le-zero}
 use native.Mathlib.Decide.{ℕ-discrete}
-use mathlib.Core.Path.{_≡_, refl}
+use mathlib.Core.Path.{_≡_, refl, sym}
 use mathlib.Core.Bool.{Bool, true, false, not, cond}
 use mathlib.Core.Logic.{_⊎_, inl, inr}
 
@@ -91,6 +91,18 @@ pub or-false-r : (a b : Bool) → (a or b) ≡ false → b ≡ false
 unfolding _or_
 or-false-r true b h = clash refl h
 or-false-r false b h = h
+
+pub or-swap : (a b c : Bool) → (a or b or c) ≡ (a or c or b)
+unfolding _or_
+or-swap true b c = refl
+or-swap false true c = sym (or-true c)
+or-swap false false c = sym (or-false c)
+
+pub or-and : (a b c : Bool) → ((a or b) and c) ≡ ((a and c) or (b and c))
+unfolding _and_ _or_
+or-and true b true = refl
+or-and true b false = sym (and-false b)
+or-and false b c = refl
 
 pub not-true : (a : Bool) → not a ≡ true → a ≡ false
 not-true true h = clash h refl

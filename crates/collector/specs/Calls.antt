@@ -41,14 +41,29 @@ readLocked s t p = locked s (λ u q. s .locks .rd u q or (eqb u t and eqb q p an
 abbrev pub writeLocked : St → ℕ → ℕ → St
 writeLocked s t p = locked s (remove (s .locks .rd) t p) (add (s .locks .wr) t p)
 
--- t knows the references that it read
-abbrev pub readBy : St → ℕ → ℕ → St
-readBy s t o = record {
+-- t comes to know the objects of q
+abbrev pub learning : St → ℕ → (ℕ → Bool) → St
+learning s t q = record {
   count = s .count;
   pages = s .pages;
   tags = s .tags;
   locks = s .locks;
-  tables = knowing (s .tables) (λ u x. s .tables .kn u x or (eqb u t and points (s .pages .rec o) x));
+  tables = knowing (s .tables) (λ u x. s .tables .kn u x or (eqb u t and q x));
+  pass = s .pass;
+}
+
+-- t knows the references that it read
+abbrev pub readBy : St → ℕ → ℕ → St
+readBy s t o = learning s t (points (s .pages .rec o))
+
+-- line m is to create o: the COT gains it
+abbrev pub entered : St → ℕ → ℕ → ℕ → St
+entered s t o m = record {
+  count = s .count;
+  pages = s .pages;
+  tags = record { cmtTag = s .tags .cmtTag; recTag = s .tags .recTag; now = suc m };
+  locks = s .locks;
+  tables = record { kn = s .tables .kn; prt = s .tables .prt; cot = add (s .tables .cot) t o; cotF = s .tables .cotF; dirty = add (s .tables .dirty) t (pageOf o) };
   pass = s .pass;
 }
 
@@ -67,36 +82,62 @@ created s t o m = record {
 abbrev pub pruned : Obj → ℕ → ℕ → ℕ → Bool
 pruned b f v x = isRef b f and not (eqb x 0) and not (eqb x v) and eqb (b .word f) x
 
--- line m writes v to word f of o; the reference taken away enters the PRT, and turns grey while marking
-abbrev pub written : St → ℕ → ℕ → ℕ → ℕ → ℕ → St
-written s t o f v m = record {
+-- line m is to take the references of q away on page p: they enter the PRT, and turn grey while marking
+abbrev pub cutting : St → ℕ → (ℕ → Bool) → ℕ → ℕ → St
+cutting s t q p m = record {
   count = s .count;
-  pages = record { cmt = s .pages .cmt; rec = λ x. cond (eqb x o) (put (s .pages .rec o) f v) (s .pages .rec x); cop = s .pages .cop };
-  tags = record { cmtTag = s .tags .cmtTag; recTag = λ x. cond (eqb x o) (stamp (s .tags .recTag o) f m) (s .tags .recTag x); now = suc m };
+  pages = s .pages;
+  tags = record { cmtTag = s .tags .cmtTag; recTag = s .tags .recTag; now = suc m };
   locks = s .locks;
   tables = record {
     kn = s .tables .kn;
-    prt = λ u x. s .tables .prt u x or (eqb u t and pruned (s .pages .rec o) f v x);
+    prt = λ u x. s .tables .prt u x or (eqb u t and q x);
     cot = s .tables .cot;
     cotF = s .tables .cotF;
-    dirty = add (s .tables .dirty) t (pageOf o);
+    dirty = add (s .tables .dirty) t p;
   };
   pass = record {
     phase = s .pass .phase;
     at = s .pass .at;
     steps = s .pass .steps;
-    col = λ x. greyed (isMarking (s .pass .phase) and pruned (s .pages .rec o) f v x) (s .pass .col x);
+    col = λ x. greyed (isMarking (s .pass .phase) and q x) (s .pass .col x);
   };
+}
+
+-- line m writes v to word f of o; the reference taken away enters the PRT, and turns grey while marking
+abbrev pub written : St → ℕ → ℕ → ℕ → ℕ → ℕ → St
+written s t o f v m = let c = cutting s t (pruned (s .pages .rec o) f v) (pageOf o) m in record {
+  count = c .count;
+  pages = record { cmt = s .pages .cmt; rec = λ x. cond (eqb x o) (put (s .pages .rec o) f v) (s .pages .rec x); cop = s .pages .cop };
+  tags = record { cmtTag = s .tags .cmtTag; recTag = λ x. cond (eqb x o) (stamp (s .tags .recTag o) f m) (s .tags .recTag x); now = suc m };
+  locks = c .locks;
+  tables = c .tables;
+  pass = c .pass;
+}
+
+-- the copy of page p takes the objects of d; then these pages are not flushed
+abbrev pub copying : St → ℕ → (ℕ → Obj) → (ℕ → ℕ → Bool) → St
+copying s p d dirty = record {
+  count = s .count;
+  pages = record { cmt = s .pages .cmt; rec = s .pages .rec; cop = mix (λ o. eqb (pageOf o) p) d (s .pages .cop) };
+  tags = s .tags;
+  locks = s .locks;
+  tables = record { kn = s .tables .kn; prt = s .tables .prt; cot = s .tables .cot; cotF = s .tables .cotF; dirty = dirty };
+  pass = s .pass;
 }
 
 -- the copy of page p becomes the received page
 abbrev pub flushed : St → ℕ → ℕ → St
-flushed s t p = record {
+flushed s t p = copying s p (s .pages .rec) (remove (s .tables .dirty) t p)
+
+-- the book has lines up to n
+abbrev pub dated : St → ℕ → St
+dated s n = record {
   count = s .count;
-  pages = record { cmt = s .pages .cmt; rec = s .pages .rec; cop = mix (λ o. eqb (pageOf o) p) (s .pages .rec) (s .pages .cop) };
-  tags = s .tags;
+  pages = s .pages;
+  tags = record { cmtTag = s .tags .cmtTag; recTag = s .tags .recTag; now = n };
   locks = s .locks;
-  tables = record { kn = s .tables .kn; prt = s .tables .prt; cot = s .tables .cot; cotF = s .tables .cotF; dirty = remove (s .tables .dirty) t p };
+  tables = s .tables;
   pass = s .pass;
 }
 

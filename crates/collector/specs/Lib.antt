@@ -4,4 +4,5 @@ pub mod Bits
 pub mod Objects
 pub mod State
 pub mod Calls
+pub mod Undo
 pub mod Claim

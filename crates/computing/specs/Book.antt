@@ -2,12 +2,12 @@
 use Prim.Native.Nat.{ℕ}
 use Rattle.book.specs.Books.{runs, committedLines, fullLines, surviving}
 use Rattle.book.specs.Demand.{after}
-use Rattle.book.specs.Feeding.{clearedSlots, sweepLines, fed}
-use Rattle.book.specs.Lines.{left, struckNewest, undoingNewest, undoneLines, hasCommit, hasEnd, filtered, pagesAfter}
+use Rattle.book.specs.Feeding.{clearedSlots, sweepLines, goesBack, fed}
+use Rattle.book.specs.Lines.{left, struckNewest, undoingNewest, undoneLines, newestCreates, hasCommit, hasEnd, filtered, pagesAfter}
 use Rattle.book.specs.Pointers.{unbroken}
 use Rattle.computing.specs.Calls.{calls}
 
 -- the calls' definitions open with the book's
 unfoldable pub book : ℕ
-unfolding calls runs committedLines fullLines surviving after clearedSlots sweepLines fed left struckNewest undoingNewest undoneLines hasCommit hasEnd filtered pagesAfter unbroken
+unfolding calls runs committedLines fullLines surviving after clearedSlots sweepLines goesBack fed left struckNewest undoingNewest undoneLines newestCreates hasCommit hasEnd filtered pagesAfter unbroken
 book = 0

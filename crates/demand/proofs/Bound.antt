@@ -3,6 +3,7 @@ use Prim.Native.Nat.{ℕ, _+_, _≤_, _<_}
 use mathlib.Core.Path.{_≡_, refl, sym, _∙_}
 use mathlib.Core.Bool.{true}
 use mathlib.Core.List.{List, [], _∷_}
+use lib.ListN.{drop}
 use Rattle.words.specs.Bits.{bit}
 use Rattle.records.specs.declared.Record.{Record}
 use Rattle.records.specs.Effects.{effect}
@@ -22,6 +23,7 @@ use Rattle.recovery_proof.proofs.Steps.{logOf}
 use Rattle.book_laws.specs.Seen.{seenCommitted, seenFull}
 use Rattle.book_laws.specs.Keeping.{SoundBook}
 use Rattle.book_laws.proofs.Members.{each-cons}
+use Rattle.book_laws.proofs.Committed.{alike-self}
 use Rattle.demand.proofs.State.{machine, received, LogInv, OpenInv}
 use Rattle.demand.proofs.OneRecord.{Appends, log-after}
 use Rattle.demand.proofs.Change.{full-shown}
@@ -61,7 +63,10 @@ module _ (n : ℕ) (some : 1 ≤ n) (s : Areas) (b : Book) (i : OpenInv n s b) (
     counts = refl;
     stored = refl;
     origin = c .origin;
+    older = b .lines;
     lines = c .lines;
+    entries-same = refl;
+    alike = λ j. alike-self (drop j (b .lines));
     stable = c .stable;
     room = c .room;
     ok = c .ok;
@@ -71,4 +76,4 @@ module _ (n : ℕ) (some : 1 ≤ n) (s : Areas) (b : Book) (i : OpenInv n s b) (
   pub bound-log : Recovery.Inv (i .base) (logOf (λ x. seenFull b′ x .object) (λ x. seenCommitted b′ x .object) (locksOf w n .wr) (locksOf w n .act) (r ∷ received s))
       → Collector.Inv (machine n s′ b′) → LogInv n s′ b′ (i .base)
   unfolding appended
-  bound-log j m = log-after n s b (i .base) (i .log) h r l s′ b′ appends j m bound-sound (c .opens) (same-longer (r ∷ []) (received s) (i .log .copies))
+  bound-log j m = log-after n s b (i .base) (i .log) (h .sized) r l s′ b′ appends j m bound-sound (c .opens) (same-longer (r ∷ []) (received s) (i .log .copies))

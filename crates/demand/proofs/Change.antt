@@ -1,30 +1,33 @@
 -- A create or a set of a running transaction: the book, the log and the invariant after it. n is the number of pages. Assumes nothing.
-use Prim.Native.Nat.{ℕ, suc, _≤_, _<_}
+use Prim.Native.Nat.{ℕ, suc, _+_, _*_, _≤_, _<_}
 use native.Mathlib.Omega.{arith}
 use mathlib.Core.Path.{_≡_, refl, sym, ap, _∙_}
-use mathlib.Core.Bool.{Bool, true, false}
+use mathlib.Core.Bool.{Bool, true, false, not, _||_}
 use mathlib.Core.List.{List, [], _∷_}
 use mathlib.Core.Logic.{inl, inr}
-use lib.ListN.{length}
+use lib.ListN.{length, drop}
+use lib.Seq.{getD-set-same}
 use lib.Dec.{eqb}
-use Rattle.words.specs.Tests.{or-r}
+use borrow.Author.Tests.{eqb-true, eqb-false, eq-eqb, ne-eqb}
+use Rattle.words.specs.Tests.{if, by-bool, and-false, or-r}
 use Rattle.words.specs.Bits.{bit}
 use Rattle.pages.specs.Geometry as Geometry
 use Rattle.records.specs.declared.Record.{Record}
-use Rattle.records.specs.Records.{isSweep, txnCount}
+use Rattle.records.specs.Records.{isBegin, isCreate, isSweep, txnCount, recordWords, recorded}
 use Rattle.records.specs.Effects.{effect}
 use Rattle.records.specs.Soundness.{recordSound, namesObject}
 use Rattle.records.specs.Order.{openIn, openNext, inOrder}
 use Rattle.areas.specs.Areas.{Areas, receivedCount, withWork, appended}
 use Rattle.areas.specs.Layout.{unflushedAt, tableWords}
-use Rattle.areas.specs.Tables.{isActive}
+use Rattle.areas.specs.Tables.{isActive, undoes}
 use Rattle.acceptance.specs.Entered.{Open}
 use Rattle.acceptance.specs.Room.{Room}
-use Rattle.book.specs.Lines.{Line, line, filtered, pagesAfter, hasCommit}
+use Rattle.book.specs.Lines.{Line, line, isLeft, filtered, pagesAfter, hasCommit}
 use Rattle.book.specs.Books.{Book, runs, fullLines, fullPages, countsCommitted, countsFull}
 use Rattle.collector.specs.Objects.{Obj, Tag, pageOf}
 use Rattle.collector.specs.State.{St, Locks}
-use Rattle.collector.proofs.Invariant as Collector
+use Rattle.collector.specs.Undo.{Item, Stacks, push, itemOf}
+use Rattle.collector.proofs.Worlds.{Deep, inv-of, deep-same}
 use Rattle.machine_view.specs.View.{view, applied, unapplied}
 use Rattle.machine_calls.specs.Tables.{locksOf, tablesOf}
 use Rattle.machine_calls.proofs.Frames.{Beside, locks-kept, reopening-kept}
@@ -32,17 +35,23 @@ use Rattle.machine_calls.proofs.Facts.{act-is}
 use Rattle.machine_calls.proofs.Shows.{Shows}
 use Rattle.recovery_proof.proofs.Invariant as Recovery
 use Rattle.recovery_proof.proofs.Decided.{SameCells, same-longer}
-use Rattle.recovery_proof.proofs.Reversal.{Change}
+use Rattle.recovery_proof.proofs.Reversal.{Change, change-kind}
 use Rattle.recovery_proof.proofs.Steps.{logOf, log-change}
-use Rattle.book_laws.specs.Seen.{Seen, acted, seenCommitted, seenFull}
+use Rattle.book_laws.specs.Seen.{touches, Seen, acted, seenCommitted, seenFull}
+use Rattle.book_laws.specs.Striking.{entries, Backs, here}
 use Rattle.book_laws.specs.Keeping.{SoundBook, Runs, BookInv, Writers, openly}
 use Rattle.book_laws.proofs.Members.{each-cons}
-use Rattle.book_laws.proofs.Committed.{filtered-same}
+use Rattle.book_laws.proofs.Folds.{seen-agree}
+use Rattle.book_laws.proofs.Backing.{every-map, change-other, backs-agree}
+use Rattle.book_laws.proofs.Committed.{filtered-same, alike-self}
 use Rattle.book_laws.proofs.Running.{runs-it}
 use Rattle.book_laws.proofs.Feeding.{adds-committed, adds-full}
 use Rattle.book_laws.proofs.Openness.{open-adds}
 use Rattle.book_laws.proofs.Pages.{full-view}
 use Rattle.demand.proofs.State.{machine, received, OpenInv}
+use Rattle.demand.proofs.LeftRecords.{leftRecords}
+use Rattle.demand.proofs.Notes.{leftEntries, Notes, Behind, undoes-same, marks-same, left-other, left-own, fresh-more}
+use Rattle.demand.proofs.Going.{items-own, backs-past}
 use Rattle.demand.proofs.OneRecord.{Appends, log-after}
 
 -- the machine shows the working words
@@ -81,7 +90,7 @@ abbrev pub areasAfter : Areas → Record → List ℕ → Areas
 areasAfter s r w = withWork (appended s r) w
 
 abbrev pub bookAfter : Book → ℕ → Record → (ℕ → ℕ → Bool) → Book
-bookAfter b t r k = record { origin = b .origin; lines = line r (b .running t) ∷ b .lines; stable = b .stable; begun = b .begun; running = b .running; known = k; stage = b .stage }
+bookAfter b t r k = record { origin = b .origin; lines = line r (b .running t) ∷ b .lines; stable = b .stable; begun = b .begun; running = b .running; known = k; marked = b .marked; stage = b .stage }
 
 -- t's record r, which can be taken back, on a page that t writes; w: the working words after it
 pub record Changing (n : ℕ) (s : Areas) (b : Book) (t : ℕ) (r : Record) (w : List ℕ) : Type 0 where
@@ -90,9 +99,10 @@ pub record Changing (n : ℕ) (s : Areas) (b : Book) (t : ℕ) (r : Record) (w :
   pub small : t < txnCount
   pub active : isActive (s .work) t ≡ true
   pub ok : recordSound n r ≡ true
-  pub room : Room s 2
+  pub room : Room s n 2
   pub own : locksOf (s .work) n .wr t (pageOf (r .object)) ≡ true
   pub back : unapplied r (r .object) (applied r (r .object) (seenFull b (r .object) .object)) ≡ seenFull b (r .object) .object
+  pub there : seenFull b (r .object) .object .occ ≡ not (isCreate r)
   pub beside : Beside (unflushedAt n 0) (tableWords n) (s .work) w
 
 module _ (n : ℕ) (some : 1 ≤ n) (s : Areas) (b : Book) (i : OpenInv n s b) (h : Open s n) (t : ℕ) (r : Record) (w : List ℕ) (c : Changing n s b t r w) (k : ℕ → ℕ → Bool) where
@@ -149,13 +159,13 @@ module _ (n : ℕ) (some : 1 ≤ n) (s : Areas) (b : Book) (i : OpenInv n s b) (
   sound-after = record { origin = i .sound .origin; lines = each-cons (c .ok) (i .sound .lines) }
 
   -- the collector's part: st shows the words, and these objects with their lines
-  pub collector-after : (st : St) → Shows w n st → Collector.Inv st → (F : ℕ → Obj) (G : ℕ → Tag)
+  pub collector-after : (us : Stacks) (st : St) → Shows w n st → Deep st us → (F : ℕ → Obj) (G : ℕ → Tag)
       → st .pages ≡ record { cmt = λ x. seenCommitted b x .object; rec = F; cop = view (s .copies) }
       → st .tags ≡ record { cmtTag = λ x. seenCommitted b x .tag; recTag = G; now = suc (suc (length (b .lines))) }
       → ((x : ℕ) → acted (suc (length (b .lines))) r x (seenFull b x) ≡ record { object = F x; tag = G x })
-      → Collector.Inv (machine n s′ b′)
+      → Deep (machine n s′ b′) us
   unfolding appended
-  collector-after st e j F G p q d = Collector.same st (machine n s′ b′) (sym (e .count)) (objects ∙ sym p) (tags ∙ sym q) (sym (e .locks)) (sym (e .tables)) (sym (e .pass)) j
+  collector-after us st e j F G p q d = deep-same st (machine n s′ b′) us (sym (e .count)) (objects ∙ sym p) (tags ∙ sym q) (sym (e .locks)) (sym (e .tables)) (sym (e .pass)) j
     where
       sees : (x : ℕ) → seenFull b′ x ≡ record { object = F x; tag = G x }
       sees x = full-after x ∙ d x
@@ -178,7 +188,10 @@ module _ (n : ℕ) (some : 1 ≤ n) (s : Areas) (b : Book) (i : OpenInv n s b) (
     counts = refl;
     stored = refl;
     origin = refl;
+    older = b .lines;
     lines = refl;
+    entries-same = refl;
+    alike = λ j. alike-self (drop j (b .lines));
     stable = refl;
     room = let q = c .room in omega arith;
     ok = c .ok;
@@ -211,13 +224,75 @@ module _ (n : ℕ) (some : 1 ≤ n) (s : Areas) (b : Book) (i : OpenInv n s b) (
     one = λ u v p e d. i .writers .one u v p (sym (wr-same u p) ∙ e) (sym (wr-same v p) ∙ d);
   }
 
-  pub open-change : Collector.Inv (machine n s′ b′) → BookInv b′ → ((u x : ℕ) → k u x ≡ true → tablesOf w n .kn u x ≡ true) → OpenInv n s′ b′
+  -- what can be taken back then: the object as it was, and what could before
+  abbrev item : Item
+  item = itemOf (machine n s b) (r .object)
+
+  abbrev stack : Stacks
+  stack = push (i .going .stack) t item
+
+  left-line : isLeft (b .running t) (line r (b .running t)) ≡ true
+  left-line = rw (eq-eqb (b .running t) (b .running t) refl) (change-kind r (c .kind))
+
+  -- of another
+  foreign : (u : ℕ) → Runs b u → eqb u t ≡ false → isLeft (b .running u) (line r (b .running t)) ≡ false
+  foreign u run e = rw (ne-eqb (b .running t) (b .running u) (λ z. eqb-false u t e (sym (i .book .distinct t u change-runs z))))
+
+  apart : (u x : ℕ) → eqb u t ≡ false → locksOf (s .work) n .wr u (Geometry.pageOf x) ≡ true → touches r x ≡ false
+  unfolding pageOf
+  apart u x e w = change-other (b .running t) (line r (b .running t)) left-line x
+      (ne-eqb x (r .object) (λ z. eqb-false u t e (i .writers .one u t (Geometry.pageOf x) w (rw z (c .own)))))
+
+  backs-after : (u : ℕ) → Runs b′ u → Backs (b .origin) (countsFull b′) (b .running u) (line r (b .running t) ∷ b .lines) (stack u)
+  backs-after u run = by-bool (eqb u t)
+      (λ e. rw (e, eqb-true u t e) (here left-line new-counts
+      (record {
+        object = refl;
+        was = seen-agree (b .origin) (countsFull b′) (countsFull b) (b .lines) (r .object) (λ l j d. counts l);
+        fits = c .back;
+        there = c .there;
+      })
+      (backs-agree (b .origin) (countsFull b) (countsFull b′) (b .running t) (b .lines) (i .going .stack t) (λ l j x d. counts l) (i .going .backs t change-runs))))
+      (λ e. rw e (backs-past (b .origin) (countsFull b) (countsFull b′) (b .running u) (line r (b .running t)) (b .lines) (i .going .stack u) (foreign u run e)
+      (λ d. every-map (i .going .stack u) (λ x. apart u x e) (items-own n s b (i .going) (i .writers) u run))
+      (λ l j x d. counts l) (i .going .backs u run)))
+
+  long : recordWords * receivedCount s + recordWords ≤ length (s .log)
+  long = let e = h .sized .log-len in let q = c .room in omega arith
+
+  behind : Behind n (s .work) w
+  behind j l = c .beside .above j l
+
+  entries-more : (u : ℕ) → leftEntries b′ u ≡ if (isLeft (b .running u) (line r (b .running t))) (r ∷ leftEntries b u) (leftEntries b u)
+  unfolding filtered entries
+  entries-more u = by-bool (isLeft (b .running u) (line r (b .running t))) (λ e. rw e) (λ e. rw e)
+
+  unbegun : (u : ℕ) → isBegin r u ≡ false
+  unbegun u = rw (is .begins)
+
+  notes-after : Notes n s′ b′
   unfolding appended
-  open-change m q known = record {
+  notes-after = let q = undoes-same n (s .work) w behind in record {
+    left = λ u run. ap (leftRecords (undoes w n) (recorded (s .log) (receivedCount s) r) u) count-more ∙ by-bool (eqb u t)
+        (λ e. rw (eqb-true u t e) (left-own n s b (i .going .notes) w r long q t change-runs (unbegun t) (rw (change-kind r (c .kind), eq-eqb (r .txn) t (c .txn)))
+        ∙ sym (entries-more t ∙ rw left-line)))
+        (λ e. left-other n s b (i .going .notes) w r long q u run (unbegun u) (rw (ne-eqb (r .txn) u (λ z. eqb-false u t e (sym z ∙ c .txn)), and-false (eqb (r .kind) 2 || eqb (r .kind) 3)))
+        ∙ sym (entries-more u ∙ rw (foreign u run e)));
+    fresh = fresh-more n s b (i .going .notes) w r long q (receivedCount s′) count-more;
+    marks = marks-same n (s .work) w (b .marked) behind (i .going .notes .marks);
+  }
+    where
+      count-more : receivedCount s′ ≡ receivedCount s + 1
+      count-more = getD-set-same (s .counts) 0 (receivedCount s + 1) 0 (let e = h .sized .counts-len in omega arith)
+
+  pub open-change : Deep (machine n s′ b′) stack → BookInv b′ → ((u x : ℕ) → k u x ≡ true → tablesOf w n .kn u x ≡ true) → OpenInv n s′ b′
+  unfolding appended
+  open-change d q known = let m = inv-of (d 0) in record {
     size = i .size;
     stage = i .stage;
     word = reopening-kept (c .beside) n (omega arith) .0 ∙ i .word;
     collector = m;
+    going = record { stack = stack; deep = d; backs = backs-after; notes = notes-after };
     book = q;
     sound = sound-after;
     full = received-shown;
@@ -226,5 +301,5 @@ module _ (n : ℕ) (some : 1 ≤ n) (s : Areas) (b : Book) (i : OpenInv n s b) (
     runs = λ u e. act-same u ∙ i .runs u e;
     writers = writers-after;
     base = i .base;
-    log = log-after n s b (i .base) (i .log) h r (line r (b .running t)) s′ b′ appends inv-after m sound-after open-after copies-after;
+    log = log-after n s b (i .base) (i .log) (h .sized) r (line r (b .running t)) s′ b′ appends inv-after m sound-after open-after copies-after;
   }

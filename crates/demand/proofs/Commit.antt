@@ -3,12 +3,13 @@ use Prim.Native.Nat.{ℕ, suc, _≤_}
 use native.Mathlib.Omega.{arith}
 use mathlib.Core.Path.{_≡_, refl, sym, ap, _∙_}
 use mathlib.Core.Bool.{true}
-use mathlib.Core.List.{List, _∷_}
+use mathlib.Core.List.{List, [], _∷_}
 use lib.ListN.{length}
 use Rattle.records.specs.Records.{commitOf}
 use Rattle.records.specs.Effects.{effect}
 use Rattle.areas.specs.Answers.{accepted}
-use Rattle.areas.specs.Areas.{Areas, Out, withWork, appended}
+use Rattle.areas.specs.Areas.{Areas, Out, receivedCount, withWork, appended}
+use Rattle.areas.specs.Tables.{undoes}
 use Rattle.calls.specs.Calls.{commit}
 use Rattle.calls.specs.Transactions.{callCommit, committed, endedTables}
 use Rattle.acceptance.specs.Entered.{Open, opened}
@@ -19,8 +20,9 @@ use Rattle.book.specs.Feeding.{fed}
 use Rattle.collector.specs.Objects.{pageOf}
 use Rattle.collector.specs.State.{St, Locks, mix}
 use Rattle.collector.specs.Calls as Calls
-use Rattle.collector.proofs.Invariant as Collector
-use Rattle.collector.proofs.Commit.{keep-commit}
+use Rattle.collector.specs.Undo.{Stacks, with}
+use Rattle.collector.proofs.Worlds.{Deep, inv-of, deep-same}
+use Rattle.collector.proofs.Depths.{deep-commit}
 use Rattle.machine_view.specs.View.{view}
 use Rattle.machine_calls.specs.Tables.{locksOf}
 use Rattle.machine_calls.proofs.Facts.{act-is, commit-facts}
@@ -31,13 +33,14 @@ use Rattle.book_laws.specs.Seen.{Seen, seenCommitted, seenFull}
 use Rattle.book_laws.specs.Keeping.{Runs}
 use Rattle.book_laws.specs.After.{committedBy}
 use Rattle.record_laws.specs.SoundRecords.{commit-sound}
-use Rattle.book_laws.proofs.Ending.{commit-full, commit-committed}
+use Rattle.book_laws.proofs.Ending.{commit-all, commit-full, commit-committed}
 use Rattle.book_laws.proofs.Finishing.{commit-inv}
 use Rattle.book_laws.proofs.Openness as Openness
-use Rattle.demand.proofs.State.{machine, received, OpenInv}
+use Rattle.demand.proofs.State.{machine, received, Going, OpenInv}
 use Rattle.demand.proofs.Change.{machine-shows}
 use Rattle.demand.proofs.Shared.{picked}
-use Rattle.demand.proofs.Ending.{end-word, end-opens, end-known, end-active, end-runs, end-writers}
+use Rattle.demand.proofs.LeftRecords.{left-same}
+use Rattle.demand.proofs.Ending.{EndsBy, end-marks, end-undoes, end-going, end-word, end-opens, end-known, end-active, end-runs, end-writers}
 use Rattle.demand.proofs.Bound.{Bounding, bound-sound, bound-full, bound-log}
 
 module _ (n : ℕ) (some : 1 ≤ n) (s : Areas) (b : Book) (i : OpenInv n s b) (h : Open s n) (t : ℕ) (f : Accepted.CommitFacts s n t) where
@@ -70,13 +73,16 @@ module _ (n : ℕ) (some : 1 ≤ n) (s : Areas) (b : Book) (i : OpenInv n s b) (
   shows : Shows w n st
   shows = commit-shows (s .work) n (h .sized .tables .1) (machine n s b) (machine-shows n s b) t (suc (suc (length (b .lines)))) (f .txn)
 
-  collector-after : Collector.Inv (machine n s′ b′)
+  abbrev stack : Stacks
+  stack = with (i .going .stack) t []
+
+  deep-after : Deep (machine n s′ b′) stack
   unfolding appended
-  collector-after = Collector.same st (machine n s′ b′) refl
+  deep-after = deep-same st (machine n s′ b′) stack refl
       (λ z. record { cmt = λ x. mixed x .0 z; rec = λ x. full-same x z .object; cop = view (s .copies) })
       (λ z. record { cmtTag = λ x. mixed x .1 z; recTag = λ x. full-same x z .tag; now = suc (suc (length (b .lines))) })
       (sym (shows .locks)) (sym (shows .tables)) (sym (shows .pass))
-      (keep-commit (machine n s b) t _ (commit-facts s n (machine n s b) (machine-shows n s b) t _ f (omega arith)) (i .collector))
+      (deep-commit t _ (machine n s b) (i .going .stack) (commit-facts s n (machine n s b) (machine-shows n s b) t _ f (omega arith)) (i .going .deep))
 
   bounding : Bounding n s b (commitOf t) (line (commitOf t) (b .running t)) w b′
   unfolding effect
@@ -102,13 +108,35 @@ module _ (n : ℕ) (some : 1 ≤ n) (s : Areas) (b : Book) (i : OpenInv n s b) (
       refl
       (log-commit (i .base) _ _ _ _ (received s) (i .log .inv) t)
 
+  ends-by : EndsBy n s b i (h .sized) t (commitOf t) b′ w
+  ends-by = record {
+    quiet = λ x. refl;
+    unchanging = refl;
+    uncreating = refl;
+    unbegun = refl;
+    room = f .room;
+    origin = refl;
+    lines = refl;
+    running = refl;
+    marked = refl;
+    agree = λ l j x d. commit-all b (i .book) t run l;
+    left = λ u r d. left-same (undoes (s .work) n) (undoes w n) (s .log) (s .log) u (receivedCount s) (λ j l. end-undoes n (s .work) t (f .txn) j) (λ j l. refl) ∙ i .going .notes .left u r;
+    fresh = λ j l. end-undoes n (s .work) t (f .txn) j ∙ i .going .notes .fresh j l;
+    marks = end-marks n (s .work) t (f .txn) (let e = h .sized .work-len in omega arith) (b .marked) (i .going .notes .marks);
+  }
+
+  going-after : Going n s′ b′
+  unfolding appended
+  going-after = end-going n s b i (h .sized) t (commitOf t) b′ w ends-by s′ refl refl refl deep-after
+
   committed-inv : OpenInv n s′ b′
   unfolding appended
   committed-inv = record {
     size = i .size;
     stage = i .stage;
     word = end-word n s b i (h .sized .tables .1) t (f .txn);
-    collector = collector-after;
+    collector = inv-of (deep-after 0);
+    going = going-after;
     book = commit-inv b (i .book) t run;
     sound = bound-sound n some s b i h _ _ w b′ bounding;
     full = bound-full n some s b i h _ _ w b′ bounding;
@@ -117,7 +145,7 @@ module _ (n : ℕ) (some : 1 ≤ n) (s : Areas) (b : Book) (i : OpenInv n s b) (
     runs = end-runs n s b i (h .sized .tables .1) t (f .txn) b′ refl refl;
     writers = end-writers n s b i (h .sized .tables .1) t (f .txn) b′ refl refl (Openness.open-commit b (i .book) t run);
     base = i .base;
-    log = bound-log n some s b i h _ _ w b′ bounding inv-after collector-after;
+    log = bound-log n some s b i h _ _ w b′ bounding inv-after (inv-of (deep-after 0));
   }
 
 pub open-commit : (n : ℕ) → 1 ≤ n → (s : Areas) (b : Book) → OpenInv n s b → (t : ℕ) → accepted (callCommit s t .answer) ≡ true

@@ -22,11 +22,13 @@ use Rattle.acceptance.specs.Objects.{create-outcome}
 use Rattle.book.specs.Books.{Book}
 use Rattle.book.specs.Feeding.{fed, adds, learns}
 use Rattle.collector.specs.Bits.{or-l, or-r, and-intro}
-use Rattle.collector.specs.Objects.{blank, fresh, bornAt}
+use Rattle.collector.specs.Objects.{Obj, blank, fresh, bornAt}
+use Rattle.collector.proofs.Objects.{blank-occ}
 use Rattle.collector.specs.State.{Tables, add}
 use Rattle.collector.specs.Calls as C
-use Rattle.collector.proofs.Invariant as Collector
-use Rattle.collector.proofs.Create.{keep-create}
+use Rattle.collector.specs.Undo.{push, itemOf}
+use Rattle.collector.proofs.Worlds.{Deep}
+use Rattle.collector.proofs.Pushing.{deep-create}
 use Rattle.machine_calls.specs.Tables.{tablesOf}
 use Rattle.machine_calls.proofs.Frames.{wider}
 use Rattle.machine_calls.proofs.Facts as Facts
@@ -70,12 +72,13 @@ module _ (n : ℕ) (some : 1 ≤ n) (s : Areas) (b : Book) (i : OpenInv n s b) (
     room = f .room;
     own = Facts.own-is s n (machine n s b) (machine-shows n s b) t o (f .txn) (f .object) (f .lock);
     back = create-back (createOf t o) (seenFull b o .object) refl was-blank;
+    there = ap (λ (v : Obj). v .occ) was-blank ∙ blank-occ;
     beside = wider (create-beside (s .work) n t o (f .object .low) (f .object .top)) (omega arith) (omega arith);
   }
 
-  machine-kept : Collector.Inv (C.created (machine n s b) t o m)
-  machine-kept = keep-create (machine n s b) t o m
-      (Facts.create-facts s n (machine n s b) (machine-shows n s b) t o m (full-shown n s b i o) f (omega arith)) (i .collector)
+  machine-kept : Deep (C.created (machine n s b) t o m) (push (i .going .stack) t (itemOf (machine n s b) o))
+  machine-kept = deep-create t o m (machine n s b) (i .going .stack)
+      (Facts.create-facts s n (machine n s b) (machine-shows n s b) t o m (full-shown n s b i o) f (omega arith)) (i .going .deep)
 
   -- what t knows
   knows : (u x : ℕ) → tablesOf w n .kn u x ≡ add (tablesOf (s .work) n .kn) t o u x
@@ -93,7 +96,7 @@ module _ (n : ℕ) (some : 1 ≤ n) (s : Areas) (b : Book) (i : OpenInv n s b) (
   unfolding created fed
   create-kept = let c = changing in let k = learns (adds b t (createOf t o)) t (eqb o) .known in
       open-change n some s b i h t (createOf t o) w c k
-      (collector-after n some s b i h t (createOf t o) w c k (C.created (machine n s b) t o m)
+      (collector-after n some s b i h t (createOf t o) w c k (push (i .going .stack) t (itemOf (machine n s b) o)) (C.created (machine n s b) t o m)
       (create-shows (s .work) n (h .sized .tables .1) (machine n s b) (machine-shows n s b) t o (f .txn) (f .object .low) (f .object .top) m)
       machine-kept _ _ refl refl (λ x. created-at m t o x (seenFull b x)))
       (fed-inv n b (create t o) [] [] (i .book) (change-runs n some s b i h t (createOf t o) w c k))

@@ -11,7 +11,7 @@ use Rattle.areas.specs.Answers.{Test, accepted}
 use Rattle.areas.specs.Areas.{Areas, Out}
 use Rattle.areas.specs.Entry.{reopening}
 use Rattle.calls.specs.Calls.{Call, reopens, perform}
-use Rattle.calls.specs.Calls.Call.{begin, commit, abort, lockRead, lockWrite, read, create, setWord, flush, force, store, empty, pass, step, reopen, restep, look}
+use Rattle.calls.specs.Calls.Call.{begin, commit, abort, lockRead, lockWrite, read, create, setWord, flush, force, store, empty, pass, step, reopen, restep, mark, back, look}
 use Rattle.acceptance.specs.Entered.{opened}
 use Rattle.acceptance.specs.Ran.{Outcome}
 use Rattle.acceptance.specs.Transactions.{begin-outcome, commit-outcome, abort-outcome}
@@ -19,6 +19,7 @@ use Rattle.acceptance.specs.Locks.{lock-read-outcome, lock-write-outcome}
 use Rattle.acceptance.specs.Objects.{read-outcome, create-outcome, set-outcome, flush-outcome}
 use Rattle.acceptance.specs.Stability.{force-outcome, store-outcome, empty-outcome}
 use Rattle.acceptance.specs.Pass.{pass-outcome, step-outcome}
+use Rattle.acceptance.specs.Marks.{mark-outcome, back-outcome}
 use Rattle.acceptance.specs.Looks.{look-outcome}
 
 ran-open : (own : Bool) (s : Areas) (tests : ℕ → List Test) (o : Out) (k : ℕ → Out) → Outcome true own s tests o k → accepted (o .answer) ≡ true → reopening s ≡ 2
@@ -42,4 +43,6 @@ accepted-open s pass r a = ran-open true s _ _ _ (pass-outcome s) a
 accepted-open s step r a = ran-open true s _ _ _ (step-outcome s) a
 accepted-open s reopen r a = clash refl r
 accepted-open s restep r a = clash refl r
+accepted-open s (mark t m) r a = ran-open true s _ _ _ (mark-outcome s t m) a
+accepted-open s (back t m) r a = ran-open true s _ _ _ (back-outcome s t m) a
 accepted-open s (look q) r a = ran-open (q .own) s _ _ _ (look-outcome s q) a

@@ -22,7 +22,7 @@ use Rattle.book.specs.Feeding.{fed}
 use Rattle.collector.specs.Objects.{Obj, pageOf}
 use Rattle.collector.specs.State.{Tables, mix}
 use Rattle.collector.specs.Calls as C
-use Rattle.collector.proofs.Write.{keep-flush}
+use Rattle.collector.proofs.Depths.{deep-flush}
 use Rattle.machine_view.specs.View.{view}
 use Rattle.machine_calls.proofs.Frames.{reopening-kept}
 use Rattle.machine_calls.proofs.Facts as Facts
@@ -35,7 +35,7 @@ use Rattle.recovery_proof.proofs.Cells.{same-mix, same-eq, replay-cells}
 use Rattle.book_laws.specs.Seen.{seenFull}
 use Rattle.demand.proofs.State.{machine, received, OpenInv}
 use Rattle.demand.proofs.Change.{machine-shows, full-shown}
-use Rattle.demand.proofs.Unlogged.{open-unlocked}
+use Rattle.demand.proofs.Unlogged.{notes-kept, open-unlocked}
 use Rattle.demand.proofs.Copying.{copied-view}
 
 -- the full objects are the base's where no received record writes
@@ -58,7 +58,8 @@ module _ (n : ℕ) (some : 1 ≤ n) (s : Areas) (b : Book) (i : OpenInv n s b) (
   flush-kept = open-unlocked n s b i c (lose (s .work) (unflushedAt n p) t) (C.flushed (machine n s b) t p)
       (record {
         shows = flush-shows (s .work) n (h .sized .tables .1) (machine n s b) (machine-shows n s b) t p (f .page);
-        keeps = keep-flush (machine n s b) t p (Facts.flush-facts s n (machine n s b) (machine-shows n s b) t p image f) (i .collector);
+        keeps = deep-flush t p (machine n s b) (i .going .stack) (Facts.flush-facts s n (machine n s b) (machine-shows n s b) t p image f) (i .going .deep);
+        notes = notes-kept n s b i c (lose (s .work) (unflushedAt n p) t) (λ j l. flush-beside (s .work) n t p (f .page) .above j (omega arith));
         pages = λ z. record { cmt = machine n s b .pages .cmt; rec = machine n s b .pages .rec; cop = λ x. sym (copies x) z };
         tags = refl;
         word = reopening-kept (flush-beside (s .work) n t p (f .page)) n (omega arith) .0;

@@ -37,7 +37,7 @@ module _ (n : ℕ) (some : 1 ≤ n) where
   unfolding formattedPages
   formatted-length = length-taken (zeros (pageWords * n)) 0 0 ∙ zeros-length
 
-  formatted-view : (x : ℕ) → view (formattedPages n) x ≡ if (eqb x 1) fresh blank
+  pub formatted-view : (x : ℕ) → view (formattedPages n) x ≡ if (eqb x 1) fresh blank
   unfolding formattedPages
   formatted-view x = occupy-view n (zeros (pageWords * n)) zeros-length 1 (omega arith) (omega arith) x ∙ rw (zeros-view (pageWords * n) x)
 

@@ -78,7 +78,7 @@ module _ (n : ℕ) (some : 1 ≤ n) (s : Areas) (b : Book) (k : ℕ) (i : Storin
       (rw e at h, ap (λ (o : Out). o .after) (r .gives) ∙ ap (restepped s) e)
 
   -- the last step: all pages are stored
-  last : k ≡ n → restepped s n ≡ reopeningOver s
+  last : k ≡ n → restepped s n ≡ reopeningOver s n
   last e = let p : at (s .work) reopeningPageAt ≡ n = i .page ∙ e in rw (p, le-ltb n n (omega arith)) refl
 
   all-stored : k ≡ n → Entered false true s n → s .stored ≡ committedPages b

@@ -1,6 +1,9 @@
 -- The proof of demand 3.
 pub mod Formatted
+pub mod LeftRecords
+pub mod Notes
 pub mod State
+pub mod Going
 pub mod Pointing
 pub mod Holds
 pub mod HoldsWaiting
@@ -13,14 +16,16 @@ pub mod Finished
 pub mod Shared
 pub mod Ending
 pub mod Bound
+pub mod Went
+pub mod Undo
+pub mod GoneBack
 pub mod Commit
 pub mod Begin
 pub mod Copying
 pub mod Restored
-pub mod ManyRecords
-pub mod Undoings
 pub mod Abort
 pub mod Unlogged
+pub mod Marks
 pub mod Locks
 pub mod Reading
 pub mod Flush

@@ -17,7 +17,7 @@ use Rattle.book.specs.Feeding.{fed}
 use Rattle.collector.specs.Bits.{or-l}
 use Rattle.collector.specs.State.{Locks, Tables}
 use Rattle.collector.specs.Calls as C
-use Rattle.collector.proofs.Locking.{keep-lockr, keep-lockw}
+use Rattle.collector.proofs.Depths.{deep-lockr, deep-lockw}
 use Rattle.machine_calls.proofs.Frames.{reopening-kept}
 use Rattle.machine_calls.proofs.Facts as Facts
 use Rattle.machine_calls.proofs.Facts.{sole, page-has}
@@ -27,7 +27,7 @@ use Rattle.recovery_proof.proofs.Invariant as Recovery
 use Rattle.recovery_proof.proofs.Steps.{log-lock}
 use Rattle.demand.proofs.State.{machine, received, logged, OpenInv}
 use Rattle.demand.proofs.Change.{machine-shows}
-use Rattle.demand.proofs.Unlogged.{open-locked, open-beside}
+use Rattle.demand.proofs.Unlogged.{notes-kept, open-locked, open-beside}
 
 module _ (n : ℕ) (s : Areas) (b : Book) (i : OpenInv n s b) (h : Open s n) (t p : ℕ) where
   read-kept : Accepted.LockReadFacts s n t p → OpenInv n (withWork s (readLocked (s .work) n t p)) b
@@ -36,10 +36,11 @@ module _ (n : ℕ) (s : Areas) (b : Book) (i : OpenInv n s b) (h : Open s n) (t 
       open-beside n s b i (s .copies) (readLocked (s .work) n t p) (C.readLocked (machine n s b) t p)
       (record {
         shows = lock-read-shows (s .work) n (h .sized .tables .1) (machine n s b) (machine-shows n s b) t p (f .txn) (f .page);
-        keeps = keep-lockr (machine n s b) t p (Facts.lock-read-facts s n (machine n s b) (machine-shows n s b) t p f) (i .collector);
+        keeps = deep-lockr t p (machine n s b) (i .going .stack) (Facts.lock-read-facts s n (machine n s b) (machine-shows n s b) t p f) (i .going .deep);
         pages = refl;
         tags = refl;
         word = reopening-kept (lock-read-beside (s .work) n t p (f .page)) n (omega arith) .0;
+        notes = notes-kept n s b i (s .copies) (readLocked (s .work) n t p) (λ j l. lock-read-beside (s .work) n t p (f .page) .above j (omega arith));
         knows = λ u x k. ap (λ (a : Tables). a .kn u x) (lock-read-tables (s .work) n t p (f .page)) ∙ k;
         cells = i .log .copies;
       })
@@ -53,10 +54,11 @@ module _ (n : ℕ) (s : Areas) (b : Book) (i : OpenInv n s b) (h : Open s n) (t 
       open-locked n s b i (s .copies) (writeLocked (s .work) n t p) (C.writeLocked (machine n s b) t p)
       (record {
         shows = lock-write-shows (s .work) n (h .sized .tables .1) (machine n s b) (machine-shows n s b) t p (f .txn) (f .page);
-        keeps = keep-lockw (machine n s b) t p g (i .collector);
+        keeps = deep-lockw t p (machine n s b) (i .going .stack) g (i .going .deep);
         pages = refl;
         tags = refl;
         word = reopening-kept (lock-write-beside (s .work) n t p (f .page)) n (omega arith) .0;
+        notes = notes-kept n s b i (s .copies) (writeLocked (s .work) n t p) (λ j l. lock-write-beside (s .work) n t p (f .page) .above j (omega arith));
         knows = λ u x k. ap (λ (a : Tables). a .kn u x) (lock-write-tables (s .work) n t p (f .page)) ∙ k;
         cells = i .log .copies;
       })

@@ -25,33 +25,33 @@ use Rattle.book.specs.Feeding.{fed, withLines}
 use Rattle.collector.specs.State as M
 use Rattle.collector.specs.State.{Tables, isBlack}
 use Rattle.collector.specs.Calls as C
-use Rattle.collector.proofs.Invariant as Collector
 use Rattle.collector.proofs.Count.{countb-most}
 use Rattle.collector.proofs.Facts.{MarkFacts}
-use Rattle.collector.proofs.Mark.{keep-pass, keep-mark, keep-turn}
+use Rattle.collector.proofs.Depths.{deep-pass, deep-mark, deep-turn, deep-skip}
+use Rattle.collector.proofs.Worlds.{Deep}
 use Rattle.collector.proofs.Steps.{steps-marking}
-use Rattle.collector.proofs.Sweep.{keep-skip}
 use Rattle.machine_calls.specs.Tables.{phaseOf, locksOf, tablesOf}
 use Rattle.machine_calls.proofs.Areas.{reference}
 use Rattle.machine_calls.proofs.Frames.{Beside, beside-over, beside-fill, beside-set, wider, later}
 use Rattle.machine_calls.proofs.Shows.{Shows}
-use Rattle.machine_pass.proofs.Mark.{scan-locks, scan-tables, scan-pass, moved-locks, moved-tables, moved-pass, scanned-low, steps-suc}
+use Rattle.machine_pass.proofs.Mark.{scan-locks, scan-tables, scan-pass, moved-locks, moved-tables, moved-pass, scanned-other, below-colours, behind-colours, steps-suc}
 use Rattle.machine_pass.proofs.PassFacts.{lowest-object, lowest-grey, no-grey}
 use Rattle.machine_pass.proofs.Start.{start-locks, start-tables, start-pass}
 use Rattle.machine_pass.proofs.Sweep.{on-locks, on-tables, on-pass}
 use Rattle.book_laws.proofs.Sweeps.{sweep-kept}
 use Rattle.demand.proofs.State.{machine, OpenInv}
 use Rattle.demand.proofs.Holds.{sweeping-phase}
-use Rattle.demand.proofs.Unlogged.{open-unlocked}
+use Rattle.demand.proofs.Unlogged.{notes-kept, open-unlocked}
+use Rattle.demand.proofs.Notes.{Behind}
 use Rattle.page_laws.specs.Places.{object-range}
 use Rattle.pages.specs.Geometry.{objectCount, isObject}
 
 -- a pass record written leaves the words of a reopening
-pass-beside : (w : List ℕ) (phase page steps : ℕ) → Beside 2 5 w (withPass w phase page steps)
+pub pass-beside : (w : List ℕ) (phase page steps : ℕ) → Beside 2 5 w (withPass w phase page steps)
 pass-beside w phase page steps = later (wider (beside-set w 2 phase) (omega arith) (omega arith))
     (later (wider (beside-set _ 3 page) (omega arith) (omega arith)) (wider (beside-set _ 4 steps) (omega arith) (omega arith)))
 
-start-beside : (w : List ℕ) (n : ℕ) → Beside 2 (tableWords n) w (passStarted w n)
+pub start-beside : (w : List ℕ) (n : ℕ) → Beside 2 (tableWords n) w (passStarted w n)
 unfolding passStarted unflagged
 start-beside w n = later (wider (beside-over _ w _ (objectCount n)) (omega arith) (omega arith))
     (later (wider (beside-over _ _ _ (objectCount n)) (omega arith) (omega arith))
@@ -64,10 +64,10 @@ step-adds-none n b a = ap (withLines b) (sweep-kept a a (b .lines) n (λ q l. re
 
 module _ (n : ℕ) (some : 1 ≤ n) (s : Areas) (b : Book) (i : OpenInv n s b) (h : Open s n) where
   -- the working words w after it: the machine's pass and tables change, and nothing else
-  passing : (w : List ℕ) (st : M.St) → Shows w n st → Collector.Inv st → st .pages ≡ machine n s b .pages → st .tags ≡ machine n s b .tags
-      → at w reopeningAt ≡ at (s .work) reopeningAt → locksOf w n ≡ locksOf (s .work) n → tablesOf w n .kn ≡ tablesOf (s .work) n .kn → OpenInv n (withWork s w) b
-  passing w st e j p q word locks kn = open-unlocked n s b i (s .copies) w st
-      (record { shows = e; keeps = j; pages = p; tags = q; word = word; knows = λ t x k. ap (λ (f : ℕ → ℕ → Bool). f t x) kn ∙ k; cells = i .log .copies }) locks
+  passing : (w : List ℕ) (st : M.St) → Shows w n st → Deep st (i .going .stack) → st .pages ≡ machine n s b .pages → st .tags ≡ machine n s b .tags
+      → at w reopeningAt ≡ at (s .work) reopeningAt → Behind n (s .work) w → locksOf w n ≡ locksOf (s .work) n → tablesOf w n .kn ≡ tablesOf (s .work) n .kn → OpenInv n (withWork s w) b
+  passing w st e j p q word behind locks kn = open-unlocked n s b i (s .copies) w st
+      (record { shows = e; keeps = j; pages = p; tags = q; word = word; knows = λ t x k. ap (λ (f : ℕ → ℕ → Bool). f t x) kn ∙ k; cells = i .log .copies; notes = notes-kept n s b i (s .copies) w behind }) locks
 
   start-kept : OpenInv n (withWork s (passStarted (s .work) n)) b
   start-kept =
@@ -75,8 +75,8 @@ module _ (n : ℕ) (some : 1 ≤ n) (s : Areas) (b : Book) (i : OpenInv n s b) (
       let t = start-tables n (s .work) (h .sized .tables .1) some in
       passing (passStarted (s .work) n) (C.started (machine n s b))
       (record { count = refl; locks = sym l; tables = sym t; pass = sym (start-pass n (s .work) (h .sized .tables .1) some (h .ranged .working .pruned)) })
-      (keep-pass (machine n s b) (i .collector)) refl refl
-      (start-beside (s .work) n .below reopeningAt (omega arith)) l (ap (λ (a : Tables). a .kn) t)
+      (deep-pass (machine n s b) (i .going .stack) (i .going .deep)) refl refl
+      (start-beside (s .work) n .below reopeningAt (omega arith)) (start-beside (s .work) n .above) l (ap (λ (a : Tables). a .kn) t)
 
   -- marking
   module _ (marks : isMarking (s .work) ≡ true) where
@@ -102,19 +102,27 @@ module _ (n : ℕ) (some : 1 ≤ n) (s : Areas) (b : Book) (i : OpenInv n s b) (
       pub scan-same : locksOf (scanning s n .after .work) n ≡ locksOf (s .work) n
       scan-same = scan-locks n (s .copies) (s .work) grey refs (h .sized .tables .1) ok some room
 
+      pub scan-behind : Behind n (s .work) (scanning s n .after .work)
+      scan-behind j l = pass-beside (scanned (s .copies) (s .work) n grey) 1 (at (s .work) passPageAt) (stepsNext (s .work) n) .above j (omega arith)
+          ∙ scanned-other n (s .copies) (s .work) grey refs (h .sized .tables .1) ok j (behind-colours n j l)
+
       pub scan-kept : OpenInv n (scanning s n .after) b
       scan-kept =
           let len = h .sized .tables .1 in
           let t = scan-tables n (s .copies) (s .work) grey refs len ok some room in
           passing (withPass (scanned (s .copies) (s .work) n grey) 1 (at (s .work) passPageAt) (stepsNext (s .work) n)) (C.marked (machine n s b) grey)
           (record { count = refl; locks = sym scan-same; tables = sym t; pass = sym (scan-pass n (s .copies) (s .work) grey refs len ok some room) })
-          (keep-mark (machine n s b) grey facts (i .collector)) refl refl
+          (deep-mark grey (machine n s b) (i .going .stack) facts (i .going .deep)) refl refl
           (pass-beside (scanned (s .copies) (s .work) n grey) 1 (at (s .work) passPageAt) (stepsNext (s .work) n) .below reopeningAt (omega arith)
-          ∙ scanned-low n (s .copies) (s .work) grey refs len ok reopeningAt (omega arith))
+          ∙ scanned-other n (s .copies) (s .work) grey refs len ok reopeningAt (below-colours n reopeningAt (omega arith)))
+          scan-behind
           scan-same (ap (λ (a : Tables). a .kn) t)
 
     pub turn-same : locksOf (turning s n .after .work) n ≡ locksOf (s .work) n
     turn-same = moved-locks n (s .work) 2 0 (stepsNext (s .work) n) (h .sized .tables .1)
+
+    pub turn-behind : Behind n (s .work) (turning s n .after .work)
+    turn-behind j l = pass-beside (s .work) 2 0 (stepsNext (s .work) n) .above j (omega arith)
 
     pub turn-kept : leb (lowestGrey (s .work) n) (objectCount n) ≡ false → OpenInv n (turning s n .after) b
     turn-kept g =
@@ -125,8 +133,8 @@ module _ (n : ℕ) (some : 1 ≤ n) (s : Areas) (b : Book) (i : OpenInv n s b) (
         let t = moved-tables n w 2 0 (stepsNext w n) len in
         passing (withPass w 2 0 (stepsNext w n)) (C.turned (machine n s b))
         (record { count = refl; locks = sym turn-same; tables = sym t; pass = sym (moved-pass n w 2 0 (stepsNext w n) len ∙ rw (steps-suc w n room) refl) })
-        (keep-turn (machine n s b) (record { phase = phase; noGrey = λ o low top. no-grey w n g o }) (i .collector)) refl refl
-        (pass-beside w 2 0 (stepsNext w n) .below reopeningAt (omega arith)) turn-same (ap (λ (a : Tables). a .kn) t)
+        (deep-turn (machine n s b) (i .going .stack) (record { phase = phase; noGrey = λ o low top. no-grey w n g o }) (i .going .deep)) refl refl
+        (pass-beside w 2 0 (stepsNext w n) .below reopeningAt (omega arith)) turn-behind turn-same (ap (λ (a : Tables). a .kn) t)
 
   -- sweeping
   module _ (phase : phaseOf (at (s .work) phaseAt) ≡ M.sweeping) where
@@ -143,6 +151,9 @@ module _ (n : ℕ) (some : 1 ≤ n) (s : Areas) (b : Book) (i : OpenInv n s b) (
     pub advance-word : at (advanced (s .work) n (at (s .work) passPageAt)) reopeningAt ≡ at (s .work) reopeningAt
     advance-word = advanced-beside .below reopeningAt (omega arith)
 
+    pub advance-behind : Behind n (s .work) (advanced (s .work) n (at (s .work) passPageAt))
+    advance-behind j l = advanced-beside .above j (omega arith)
+
     pub advance-same : locksOf (advanced (s .work) n (at (s .work) passPageAt)) n ≡ locksOf (s .work) n
     advance-same = on-locks n (s .work) (h .sized .tables .1) sweep-room phase
 
@@ -153,8 +164,8 @@ module _ (n : ℕ) (some : 1 ≤ n) (s : Areas) (b : Book) (i : OpenInv n s b) (
         let t = on-tables n w len sweep-room phase in
         rw z (passing (advanced w n (at w passPageAt)) (C.advanced (machine n s b))
         (record { count = refl; locks = sym advance-same; tables = sym t; pass = sym (on-pass n w len sweep-room phase) })
-        (keep-skip (machine n s b) (record { phase = phase }) (i .collector)) refl refl
-        advance-word advance-same (ap (λ (a : Tables). a .kn) t))
+        (deep-skip (machine n s b) (i .going .stack) (record { phase = phase }) (i .going .deep)) refl refl
+        advance-word advance-behind advance-same (ap (λ (a : Tables). a .kn) t))
 
 pub open-pass : (n : ℕ) → 1 ≤ n → (s : Areas) (b : Book) → OpenInv n s b → accepted (callPass s .answer) ≡ true
     → OpenInv n (callPass s .after) (fed n b pass (s .received) (callPass s .after .received))
@@ -168,7 +179,7 @@ open-pass n some s b i a =
 
 -- a pass step, from what a step that frees slots does
 pub open-step : (n : ℕ) → 1 ≤ n → (s : Areas) (b : Book) → OpenInv n s b
-    → (Open s n → phaseOf (at (s .work) phaseAt) ≡ M.sweeping → verdict (sweepTests s (sweepMapOf s n)) ≡ Accept → (sweepMapOf s n ≡ 0 → ⊥)
+    → (Open s n → phaseOf (at (s .work) phaseAt) ≡ M.sweeping → verdict (sweepTests s n (sweepMapOf s n)) ≡ Accept → (sweepMapOf s n ≡ 0 → ⊥)
     → OpenInv n (sweeping s n .after) (fed n b step (s .received) (sweeping s n .after .received)))
     → accepted (callStep s .answer) ≡ true
     → OpenInv n (callStep s .after) (fed n b step (s .received) (callStep s .after .received))

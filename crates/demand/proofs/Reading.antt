@@ -27,7 +27,7 @@ use Rattle.collector.specs.Objects.{Obj, points}
 use Rattle.collector.specs.State.{Tables}
 use Rattle.collector.specs.Calls as C
 use Rattle.collector.proofs.Facts.{ReadFacts}
-use Rattle.collector.proofs.Locking.{keep-read}
+use Rattle.collector.proofs.Depths.{deep-read}
 use Rattle.collector.proofs.Known.{known-there}
 use Rattle.collector.proofs.Objects.{word-edge}
 use Rattle.machine_calls.specs.Tables.{tablesOf}
@@ -41,19 +41,21 @@ use Rattle.book_laws.proofs.Invariant.{learn-inv}
 use Rattle.demand.proofs.State.{machine, OpenInv}
 use Rattle.demand.proofs.NoRecord.{log-quiet}
 use Rattle.demand.proofs.Change.{machine-shows, full-shown}
-use Rattle.demand.proofs.Unlogged.{open-unlocked, open-noted}
+use Rattle.demand.proofs.Unlogged.{notes-kept, open-unlocked, open-noted}
+use Rattle.demand.proofs.Notes.{notes-quiet}
 
 -- the book learns what the tables know
 open-learns : (n : ℕ) (s : Areas) (b : Book) (t : ℕ) (f : ℕ → Bool) → OpenInv n s b
     → ((x : ℕ) → f x ≡ true → tablesOf (s .work) n .kn t x ≡ true) → OpenInv n s (learns b t f)
 unfolding runs
-open-learns n s b t f i h = open-noted n s b i (s .stored) (s .counts) (b .stable) (learns b t f .known) refl (learn-inv b (i .book) t f)
+open-learns n s b t f i h = open-noted n s b i (s .stored) (s .counts) (b .stable) (learns b t f .known) (b .marked) refl (learn-inv b (i .book) t f)
     (λ u x k. by-bool (eqb u t)
     (λ e. elim (or-cases (b .known t x) (f x) (rw e at k)) [
       | inl d ↦ i .known u x (ap (λ (v : ℕ). b .known v x) (eqb-true u t e) ∙ d)
       | inr d ↦ ap (λ (v : ℕ). tablesOf (s .work) n .kn v x) (eqb-true u t e) ∙ h x d
     ])
     (λ e. i .known u x (rw e at k)))
+    (notes-quiet n s b s (learns b t f) refl refl (λ j l. refl) refl refl refl (i .going .notes))
     (i .base) (log-quiet n s b (i .base) (i .log) s (learns b t f) (record { log = refl; counts = refl; stored = refl; origin = refl; lines = refl; stable-lines = refl; running = refl })
     (i .log .inv) (λ u. refl) (i .log .copies))
 
@@ -84,12 +86,13 @@ module _ (n : ℕ) (some : 1 ≤ n) (s : Areas) (b : Book) (i : OpenInv n s b) (
       (record {
         shows = read-shows (s .work) n (h .sized .tables .1) (machine n s b) (machine-shows n s b) t o (f .txn) (f .object .low) (f .object .top)
             (s .received) (h .ranged .received-sound) (full-shown n s b i o);
-        keeps = keep-read (machine n s b) t o facts (i .collector);
+        keeps = deep-read t o (machine n s b) (i .going .stack) facts (i .going .deep);
         pages = refl;
         tags = refl;
         word = reopening-kept (read-beside (s .received) (s .work) n t o (h .ranged .received-sound) (f .object .low) (f .object .top)) n (omega arith) .0;
         knows = λ u x k. knows u x ∙ or-l _ _ k;
         cells = i .log .copies;
+        notes = notes-kept n s b i (s .copies) w (λ j l. read-beside (s .received) (s .work) n t o (h .ranged .received-sound) (f .object .low) (f .object .top) .above j (omega arith));
       })
       (read-locks (s .received) (s .work) n t o (h .ranged .received-sound) (f .object .low) (f .object .top))
 

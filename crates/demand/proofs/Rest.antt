@@ -6,13 +6,13 @@ use mathlib.Core.Path.{_≡_, refl, sym, ap, _∙_}
 use mathlib.Core.Bool.{Bool, false, not}
 use mathlib.Core.List.{List, []}
 use lib.ListN.{length}
-use lib.Dec.{ltb}
+use lib.Dec.{eqb, ltb}
 use Rattle.words.specs.Tests.{by-bool, clash, and-false, or-false}
 use Rattle.words.specs.Bits.{bit, bit-none}
 use Rattle.pages.specs.Geometry.{isObject, objectCount}
 use Rattle.records.specs.Order.{openIn}
 use Rattle.areas.specs.Areas.{Areas, receivedCount, stableCount}
-use Rattle.areas.specs.Layout.{activeAt, readersAt, writersAt, unflushedAt, knownAt, prunedAt, createdAt, colourAt}
+use Rattle.areas.specs.Layout.{activeAt, readersAt, writersAt, unflushedAt, knownAt, prunedAt, createdAt, colourAt, orderAt, undoingAt}
 use Rattle.areas.specs.Tables.{at, has, flag}
 use Rattle.areas.specs.Entry.{pages, reopening}
 use Rattle.book.specs.Lines.{pagesAfter}
@@ -23,6 +23,7 @@ use Rattle.collector.specs.Bits.{_and_}
 use Rattle.collector.specs.Objects.{Obj, Whole}
 use Rattle.collector.specs.State.{white, idle, atRest, formatted}
 use Rattle.collector.proofs.Invariant as Collector
+use Rattle.collector.proofs.Worlds.{flat}
 use Rattle.collector.proofs.Rest.{keep-reset, start}
 use Rattle.machine_view.specs.View.{view}
 use Rattle.machine_calls.specs.Tables.{pageBit, objectBit, flagBit, colourAtObject, phaseOf, locksOf, tablesOf, passOf}
@@ -38,7 +39,7 @@ use Rattle.book_laws.specs.Keeping.{SoundBook, BookInv, openly}
 use Rattle.book_laws.proofs.Folds.{seen-agree}
 use Rattle.book_laws.proofs.Pages.{committed-view}
 use Rattle.book_laws.proofs.Running.{runs-none}
-use Rattle.demand.proofs.State.{machine, received, stable, logged, LogInv, OpenInv}
+use Rattle.demand.proofs.State.{machine, received, stable, logged, LogInv, Going, OpenInv}
 use Rattle.demand.proofs.HoldsWaiting.{idle-full}
 use Rattle.records.specs.Records.{txnCount}
 
@@ -155,6 +156,19 @@ module _ (n : ℕ) (some : 1 ≤ n) (s : Areas) (b : Book) (r : Resting n s b) w
       first : (j : ℕ) → j ≤ receivedCount s - stableCount s → j ≡ 0
       first j l = let e = r .received-count in omega arith
 
+  -- nothing can be taken back, and no mark is set
+  rest-going : Going n s b
+  rest-going = record {
+    stack = λ t. [];
+    deep = λ k. flat k (machine n s b) (λ t. []) (λ t. refl) rest-machine;
+    backs = λ t e. absurd (e (r .idle t));
+    notes = record {
+      left = λ t e. absurd (e (r .idle t));
+      fresh = λ j l. ap (λ (k : ℕ). not (eqb k 0)) (r .clear (undoingAt n j) (omega arith));
+      marks = λ t m a c z. absurd (z (r .clear (orderAt n t m) (omega arith)));
+    };
+  }
+
   pub rest-open : OpenInv n s b
   unfolding openly
   rest-open = record {
@@ -162,6 +176,7 @@ module _ (n : ℕ) (some : 1 ≤ n) (s : Areas) (b : Book) (r : Resting n s b) w
     stage = r .stage;
     word = r .word;
     collector = rest-machine;
+    going = rest-going;
     book = r .book;
     sound = r .sound;
     full = r .received ∙ sym (ap (pagesAfter (b .origin)) (idle-full b (r .idle)));

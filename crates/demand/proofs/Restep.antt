@@ -15,8 +15,10 @@ use Rattle.page_laws.specs.Runs.{copied-inside, copied-outside}
 use Rattle.page_laws.specs.ViewLaws.{length-copied}
 use Rattle.areas.specs.Answers.{accepted}
 use Rattle.areas.specs.Areas.{Areas}
+use Rattle.words.specs.Spans.{fill, length-fill}
+use Rattle.areas.specs.Layout.{undoingAt}
 use Rattle.areas.specs.Tables.{at}
-use Rattle.areas.specs.Entry.{reopening}
+use Rattle.areas.specs.Entry.{records, reopening}
 use Rattle.calls.specs.Calls.{restep, perform}
 use Rattle.calls.specs.Reopening.{callRestep, pageStored, reopeningOver}
 use Rattle.acceptance.specs.Lengths.{Sized}
@@ -35,6 +37,7 @@ use Rattle.book_laws.proofs.Pages.{committed-view}
 use Rattle.demand.proofs.State.{stable, Waiting, StoringInv, Inv3, open-store, cut-store, reopening-store}
 use Rattle.demand.proofs.HoldsWaiting.{step-entered, storing-reopens}
 use Rattle.demand.proofs.Copying.{copied-view}
+use Rattle.demand.proofs.Notes.{filled-clear}
 use Rattle.demand.proofs.Rest.{Resting, rest-open}
 
 module _ (n : ℕ) (some : 1 ≤ n) (s : Areas) (b : Book) (k : ℕ) (i : StoringInv n s b k) (size : Sized s n) where
@@ -99,13 +102,18 @@ module _ (n : ℕ) (some : 1 ≤ n) (s : Areas) (b : Book) (k : ℕ) (i : Storin
     }
 
   -- the last step
-  over-rests : s .stored ≡ committedPages b → Resting n (reopeningOver s) (atStage b opened)
+  abbrev cleared : List ℕ
+  cleared = fill (λ k. 0) (s .work) (undoingAt n 0) (records s)
+
+  over-rests : s .stored ≡ committedPages b → Resting n (reopeningOver s n) (atStage b opened)
   unfolding reopeningOver committedLines
   over-rests h = let w = i .waiting in record {
     size = i .size;
     stage = refl;
-    word = getD-set-other (set (s .work) 0 2) 1 0 0 0 (λ z. omega arith) ∙ getD-set-same (s .work) 0 2 0 (let e = size .work-len in omega arith);
-    clear = λ j l. getD-set-other (set (s .work) 0 2) 1 j 0 0 (λ z. omega arith) ∙ getD-set-other (s .work) 0 j 2 0 (λ z. omega arith) ∙ i .clear j l;
+    word = getD-set-other (set cleared 0 2) 1 0 0 0 (λ z. omega arith)
+        ∙ getD-set-same cleared 0 2 0 (let e = size .work-len in let d = length-fill (λ k. 0) (s .work) (undoingAt n 0) (records s) in omega arith);
+    clear = λ j l. getD-set-other (set cleared 0 2) 1 j 0 0 (λ z. omega arith) ∙ getD-set-other cleared 0 j 2 0 (λ z. omega arith)
+        ∙ filled-clear (s .work) (undoingAt n 0) (records s) j (let e = size .work-len in omega arith) (i .clear j l);
     received-count = getD-set-other (set (s .counts) 0 0) 1 0 0 0 (λ z. omega arith) ∙ getD-set-same (s .counts) 0 0 0 (let e = size .counts-len in omega arith);
     stable-count = getD-set-same (set (s .counts) 0 0) 1 0 0 (rw (length-set (s .counts) 0 0) (let e = size .counts-len in omega arith));
     stored = h;
@@ -127,10 +135,10 @@ module _ (n : ℕ) (some : 1 ≤ n) (s : Areas) (b : Book) (k : ℕ) (i : Storin
         let d : stepped n (b .stage) ≡ storing (k + 1) = rw (i .stage, lt-ltb k n h) refl in
         rw e (subst (λ (t : Stage). Inv3 n (pageStored s k) (atStage b t)) (sym d) (reopening-store (k + 1) (omega arith) (page-kept h))))
     | no h ↦ (let z : k ≡ n = omega arith in
-        let e : callRestep s .after ≡ reopeningOver s = g ∙ rw (i .page, le-ltb k n (omega arith)) refl in
+        let e : callRestep s .after ≡ reopeningOver s n = g ∙ rw (i .page, le-ltb k n (omega arith)) refl in
         let d : stepped n (b .stage) ≡ opened = rw (i .stage, le-ltb k n (omega arith)) refl in
         let c : s .stored ≡ committedPages b = sym (ap (λ (x : Areas). x .stored) e) ∙ storing-reopens n some s b k i .stored a (i .stage ∙ ap storing z) in
-        rw e (subst (λ (t : Stage). Inv3 n (reopeningOver s) (atStage b t)) (sym d) (open-store (rest-open n some (reopeningOver s) (atStage b opened) (over-rests c)))))
+        rw e (subst (λ (t : Stage). Inv3 n (reopeningOver s n) (atStage b t)) (sym d) (open-store (rest-open n some (reopeningOver s n) (atStage b opened) (over-rests c)))))
   ]
 
 -- no reopening step is accepted unless one runs

@@ -13,11 +13,13 @@ use Rattle.areas.specs.Layout.{reopeningPageAt}
 use Rattle.areas.specs.Tables.{at}
 use Rattle.areas.specs.Entry.{pages, reopening}
 use Rattle.book.specs.Lines.{pagesAfter}
-use Rattle.book.specs.Books.{opened, awaiting, storing, Book, committedLines, committedPages, fullPages}
+use Rattle.book.specs.Books.{opened, awaiting, storing, Book, countsFull, committedLines, committedPages, fullPages}
 use Rattle.book.specs.Pointers.{Leads}
 use Rattle.collector.specs.Objects.{Obj, Whole}
 use Rattle.collector.specs.State.{St}
+use Rattle.collector.specs.Undo.{Stacks}
 use Rattle.collector.proofs.Invariant as Collector
+use Rattle.collector.proofs.Worlds.{Deep}
 use Rattle.machine_view.specs.View.{view}
 use Rattle.machine_calls.specs.Tables.{locksOf, tablesOf, passOf}
 use Rattle.recovery_proof.specs.Lines as Log
@@ -26,8 +28,9 @@ use Rattle.recovery_proof.specs.Shapes.{shapes, recs}
 use Rattle.recovery_proof.proofs.Invariant as Recovery
 use Rattle.recovery_proof.proofs.Decided.{SameCells}
 use Rattle.book_laws.specs.Seen.{counted, committedOf, seen, seenCommitted, seenFull}
-use Rattle.book_laws.specs.Striking.{entries}
+use Rattle.book_laws.specs.Striking.{entries, Backs}
 use Rattle.book_laws.specs.Keeping.{SoundBook, Runs, BookInv, Writers}
+use Rattle.demand.proofs.Notes.{Notes}
 use Rattle.pages.specs.Geometry.{pageWords, objectCount}
 use Rattle.records.specs.Records.{txnCount}
 
@@ -78,12 +81,23 @@ pub record LogInv (n : ℕ) (s : Areas) (b : Book) (base : ℕ → Obj) : Type 0
   pub stored : SameCells (stable s) (view (s .stored)) base
   pub copies : SameCells (received s) (view (s .copies)) base
 
+-- what going back may lead to
+pub record Going (n : ℕ) (s : Areas) (b : Book) : Type 0 where
+  -- by transaction, what it can take back, newest first: the collector's invariant holds however much of it is
+  pub stack : Stacks
+  pub deep : Deep (machine n s b) stack
+  -- these are the lines left
+  pub backs : (t : ℕ) → Runs b t → Backs (b .origin) (countsFull b) (b .running t) (b .lines) (stack t)
+  -- and so do the words say
+  pub notes : Notes n s b
+
 -- an open store
 pub record OpenInv (n : ℕ) (s : Areas) (b : Book) : Type 0 where
   pub size : pages s ≡ n
   pub stage : b .stage ≡ opened
   pub word : reopening s ≡ 2
   pub collector : Collector.Inv (machine n s b)
+  pub going : Going n s b
   pub book : BookInv b
   pub sound : SoundBook n b
   -- 'the received pages equal the full pages'

@@ -1,10 +1,11 @@
 -- A sweeping step that frees objects of its page keeps the invariant. n is the number of pages. Assumes nothing.
-use Prim.Native.Nat.{ℕ, zero, suc, _≤_, _<_, _^_}
+use Prim.Native.Nat.{ℕ, zero, suc, _+_, _*_, _≤_, _<_, _^_}
 use native.Mathlib.Omega.{arith}
 use mathlib.Core.Path.{_≡_, refl, sym, ap, _∙_}
 use mathlib.Core.Bool.{Bool, true, false, cond, _&&_}
 use mathlib.Core.List.{List, _∷_}
-use lib.ListN.{length}
+use lib.ListN.{length, drop}
+use lib.Seq.{getD-set-same}
 use lib.Dec.{eqb, leb}
 use borrow.Author.Tests.{eqb-true, eq-eqb, ne-eqb, le-leb}
 use Rattle.words.specs.Tests.{if, by-bool, clash, and-split, and-true, and-false}
@@ -13,7 +14,7 @@ use Rattle.pages.specs.Geometry as Geometry
 use Rattle.pages.specs.Geometry.{slotOf, objectAt, root, slotCount}
 use Rattle.pages.specs.Objects.{taken, occupied, released}
 use Rattle.records.specs.declared.Record.{Record}
-use Rattle.records.specs.Records.{sweepOf, txnCount}
+use Rattle.records.specs.Records.{sweepOf, txnCount, recordWords, recorded}
 use Rattle.records.specs.Effects.{effect}
 use Rattle.records.specs.Soundness.{recordSound}
 use Rattle.records.specs.Order.{openIn, openNext}
@@ -21,7 +22,7 @@ use Rattle.areas.specs.declared.Check.the-variants.{Accept}
 use Rattle.areas.specs.Answers.{verdict}
 use Rattle.areas.specs.Areas.{Areas, receivedCount, withWork, appended}
 use Rattle.areas.specs.Layout.{phaseAt, passPageAt}
-use Rattle.areas.specs.Tables.{at}
+use Rattle.areas.specs.Tables.{at, undoes}
 use Rattle.calls.specs.Calls.{step}
 use Rattle.calls.specs.Pass.{sweepMap, freedMap, locked, unmarked, advanced, sweptPage, sweepTests}
 use Rattle.acceptance.specs.Entered.{Open}
@@ -37,8 +38,8 @@ use Rattle.collector.specs.State as M
 use Rattle.collector.specs.State.{Locks, Tables}
 use Rattle.collector.specs.Calls as C
 use Rattle.collector.proofs.Facts.{dead-facts}
-use Rattle.collector.proofs.Invariant as Collector
-use Rattle.collector.proofs.Sweep.{keep-sweep}
+use Rattle.collector.proofs.Worlds.{Deep, inv-of, deep-same}
+use Rattle.collector.proofs.Depths.{deep-sweep}
 use Rattle.machine_view.specs.View.{view, applied}
 use Rattle.machine_view.proofs.Places.{page-of-at, slot-of-at}
 use Rattle.machine_calls.specs.Tables.{phaseOf, locksOf, tablesOf}
@@ -50,19 +51,24 @@ use Rattle.machine_view.proofs.Effects.{view-occ}
 use Rattle.record_laws.specs.SoundRecords.{sweep-sound}
 use Rattle.recovery_proof.proofs.Steps.{logOf, log-sweep}
 use Rattle.book_laws.specs.After.{sweptBy}
-use Rattle.book_laws.specs.Seen.{Seen, acted, seenCommitted, seenFull}
+use Rattle.book_laws.specs.Seen.{touches, Seen, acted, seenCommitted, seenFull}
+use Rattle.book_laws.specs.Striking.{entries}
+use Rattle.book_laws.proofs.Backing.{every-map}
 use Rattle.book_laws.specs.Keeping.{SoundBook}
 use Rattle.book_laws.proofs.Acts.{freedAt, sweep-acts}
-use Rattle.book_laws.proofs.Committed.{filtered-same}
+use Rattle.book_laws.proofs.Committed.{filtered-same, alike-self}
 use Rattle.book_laws.proofs.Feeding.{sweep-committed, sweep-full}
 use Rattle.book_laws.proofs.Invariant.{sweep-inv}
 use Rattle.book_laws.proofs.Members.{each-cons}
 use Rattle.book_laws.proofs.Openness as Openness
 use Rattle.book_laws.proofs.Sweeps.{sweep-released}
-use Rattle.demand.proofs.State.{machine, received, OpenInv}
+use Rattle.demand.proofs.State.{machine, received, Going, OpenInv}
 use Rattle.demand.proofs.OneRecord.{Appends, log-after}
 use Rattle.demand.proofs.Change.{full-shown}
-use Rattle.demand.proofs.Passing.{sweep-room, advance-word, advance-same}
+use Rattle.demand.proofs.Passing.{sweep-room, advance-word, advance-behind, advance-same}
+use Rattle.demand.proofs.LeftRecords.{leftRecords}
+use Rattle.demand.proofs.Notes.{Behind, undoes-same, marks-same, left-other, fresh-more}
+use Rattle.demand.proofs.Going.{items-own, backs-past}
 
 chosen : (c : Bool) (u v : Seen) → if c u v ≡ record { object = cond c (u .object) (v .object); tag = cond c (u .tag) (v .tag) }
 chosen true u v = refl
@@ -70,7 +76,7 @@ chosen false u v = refl
 
 -- a step that frees slots of page `page`, which nobody has locked
 module _ (n : ℕ) (some : 1 ≤ n) (s : Areas) (b : Book) (i : OpenInv n s b) (h : Open s n) (ph : phaseOf (at (s .work) phaseAt) ≡ M.sweeping)
-    (free : locked (s .work) n (at (s .work) passPageAt) ≡ false) (frees : sweepMap (s .copies) (s .work) n (at (s .work) passPageAt) ≡ 0 → ⊥) (room : Room s 1) where
+    (free : locked (s .work) n (at (s .work) passPageAt) ≡ false) (frees : sweepMap (s .copies) (s .work) n (at (s .work) passPageAt) ≡ 0 → ⊥) (room : Room s n 1) where
   abbrev page : ℕ
   page = at (s .work) passPageAt
 
@@ -142,13 +148,13 @@ module _ (n : ℕ) (some : 1 ≤ n) (s : Areas) (b : Book) (i : OpenInv n s b) (
   tables : tablesOf w n ≡ tablesOf (s .work) n
   tables = on-tables n (s .work) (h .sized .tables .1) (sweep-room n some s b i h ph) ph
 
-  machine-after : Collector.Inv (machine n s′ b′)
+  machine-after : Deep (machine n s′ b′) (i .going .stack)
   unfolding sweptPage
-  machine-after = Collector.same (C.swept (machine n s b) m) (machine n s′ b′) refl
+  machine-after = deep-same (C.swept (machine n s b) m) (machine n s′ b′) (i .going .stack) refl
       (λ z. record { cmt = λ x. committed-after x z .object; rec = λ x. full-after x z .object; cop = λ x. copies-after x z })
       (λ z. record { cmtTag = λ x. committed-after x z .tag; recTag = λ x. full-after x z .tag; now = suc m })
       locks tables (on-pass n (s .work) (h .sized .tables .1) (sweep-room n some s b i h ph) ph)
-      (keep-sweep (machine n s b) m (record { phase = ph; free = unwritten; line = omega arith }) (i .collector))
+      (deep-sweep m (machine n s b) (i .going .stack) (record { phase = ph; free = unwritten; line = omega arith }) (i .going .deep))
 
   act-same : (u : ℕ) → locksOf w n .act u ≡ locksOf (s .work) n .act u
   act-same u = ap (λ (a : Locks). a .act u) locks
@@ -165,7 +171,10 @@ module _ (n : ℕ) (some : 1 ≤ n) (s : Areas) (b : Book) (i : OpenInv n s b) (
     counts = refl;
     stored = refl;
     origin = refl;
+    older = b .lines;
     lines = refl;
+    entries-same = refl;
+    alike = λ j. alike-self (drop j (b .lines));
     stable = refl;
     room = omega arith;
     ok = ok;
@@ -205,13 +214,47 @@ module _ (n : ℕ) (some : 1 ≤ n) (s : Areas) (b : Book) (i : OpenInv n s b) (
   unfolding sweptPage appended pagesAfter
   received-shown = ap (λ (a : List ℕ). effect a r) (i .full) ∙ sym (ap (pagesAfter (b .origin)) full-lines)
 
+  -- what transactions can take back is on other pages
+  pub spares-items : (u x : ℕ) → locksOf (s .work) n .wr u (Geometry.pageOf x) ≡ true → touches r x ≡ false
+  unfolding pageOf
+  spares-items u x w = by-bool (eqb page (Geometry.pageOf x) && bit map (slotOf x))
+      (λ e. clash w (page-free x e u))
+      (λ e. rw e refl)
+
+  going-after : Going n s′ b′
+  unfolding sweptPage appended runs hasCommit filtered entries
+  going-after = let q = undoes-same n (s .work) w behind in record {
+    stack = i .going .stack;
+    deep = machine-after;
+    backs = λ u run. backs-past (b .origin) (countsFull b) (countsFull b′) (b .running u) (line r 0) (b .lines) (i .going .stack u)
+        (and-false (eqb 0 (b .running u) && true))
+        (λ d. every-map (i .going .stack u) (λ x. spares-items u x) (items-own n s b (i .going) (i .writers) u run))
+        (λ l j x d. refl) (i .going .backs u run);
+    notes = record {
+      left = λ u run. ap (leftRecords (undoes w n) (recorded (s .log) (receivedCount s) r) u) count-more ∙ left-other n s b (i .going .notes) w r long q u run refl refl
+          ∙ sym (rw (and-false (eqb 0 (b .running u) && true)) refl);
+      fresh = fresh-more n s b (i .going .notes) w r long q (receivedCount s′) count-more;
+      marks = marks-same n (s .work) w (b .marked) behind (i .going .notes .marks);
+    };
+  }
+    where
+      behind : Behind n (s .work) w
+      behind = advance-behind n some s b i h ph
+
+      long : recordWords * receivedCount s + recordWords ≤ length (s .log)
+      long = let e = h .sized .log-len in let q = room in omega arith
+
+      count-more : receivedCount s′ ≡ receivedCount s + 1
+      count-more = getD-set-same (s .counts) 0 (receivedCount s + 1) 0 (let e = h .sized .counts-len in omega arith)
+
   sweep-kept : OpenInv n s′ b′
   unfolding sweptPage appended
   sweep-kept = let sound : SoundBook n b′ = record { origin = i .sound .origin; lines = each-cons ok (i .sound .lines) } in record {
     size = i .size;
     stage = i .stage;
     word = advance-word n some s b i h ph ∙ i .word;
-    collector = machine-after;
+    collector = inv-of (machine-after 0);
+    going = going-after;
     book = sweep-inv b (i .book) page map;
     sound = sound;
     full = received-shown;
@@ -223,7 +266,7 @@ module _ (n : ℕ) (some : 1 ≤ n) (s : Areas) (b : Book) (i : OpenInv n s b) (
       one = λ t u p e d. i .writers .one t u p (sym (wr-same t p) ∙ e) (sym (wr-same u p) ∙ d);
     };
     base = i .base;
-    log = log-after n s b (i .base) (i .log) h r (line r 0) s′ b′ appends inv-after machine-after sound open-after cells-after;
+    log = log-after n s b (i .base) (i .log) (h .sized) r (line r 0) s′ b′ appends inv-after (inv-of (machine-after 0)) sound open-after cells-after;
   }
 
   -- the slots freed were taken in the received pages
@@ -246,11 +289,11 @@ module _ (n : ℕ) (some : 1 ≤ n) (s : Areas) (b : Book) (i : OpenInv n s b) (
   lines-fed = sweep-released n (s .received) (h .sized .received-len) (b .lines) page map below small frees was-taken
 
 pub open-sweep : (n : ℕ) → 1 ≤ n → (s : Areas) (b : Book) → OpenInv n s b → Open s n → phaseOf (at (s .work) phaseAt) ≡ M.sweeping
-    → verdict (sweepTests s (sweepMapOf s n)) ≡ Accept → (sweepMapOf s n ≡ 0 → ⊥)
+    → verdict (sweepTests s n (sweepMapOf s n)) ≡ Accept → (sweepMapOf s n ≡ 0 → ⊥)
     → OpenInv n (sweeping s n .after) (fed n b step (s .received) (sweeping s n .after .received))
 unfolding fed freedMap
 open-sweep n some s b i h ph check on = by-bool (locked (s .work) n (at (s .work) passPageAt))
     (λ e. absurd (on (rw e refl)))
     (λ e. let z : sweepMap (s .copies) (s .work) n (at (s .work) passPageAt) ≡ 0 → ⊥ = rw e at on in
-    let r : Room s 1 = sweep-facts s (sweepMapOf s n) check .room on in
+    let r : Room s n 1 = sweep-facts s n (sweepMapOf s n) check .room on in
     rw (e, ne-eqb (sweepMap (s .copies) (s .work) n (at (s .work) passPageAt)) 0 z, lines-fed n some s b i h ph e z r) (sweep-kept n some s b i h ph e z r))

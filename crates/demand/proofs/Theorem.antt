@@ -8,7 +8,7 @@ use Rattle.words.specs.Tests.{by-bool}
 use Rattle.areas.specs.Answers.{accepted}
 use Rattle.areas.specs.Areas.{Areas}
 use Rattle.calls.specs.Calls.{Call, reopens, perform}
-use Rattle.calls.specs.Calls.Call.{begin, commit, abort, lockRead, lockWrite, read, create, setWord, flush, force, store, empty, pass, step, reopen, restep, look}
+use Rattle.calls.specs.Calls.Call.{begin, commit, abort, lockRead, lockWrite, read, create, setWord, flush, force, store, empty, pass, step, reopen, restep, mark, back, look}
 use Rattle.calls.specs.Looks.{Look}
 use Rattle.acceptance.specs.Looks.{look-keeps}
 use Rattle.acceptance.specs.Calls.{refused-keeps}
@@ -30,6 +30,7 @@ use Rattle.demand.proofs.Flush.{open-flush}
 use Rattle.demand.proofs.Stability.{open-force, open-store as open-store-page, open-empty}
 use Rattle.demand.proofs.Passing.{open-pass, open-step}
 use Rattle.demand.proofs.Sweep.{open-sweep}
+use Rattle.demand.proofs.Marks.{open-mark, open-back}
 use Rattle.demand.proofs.Cut.{cut-kept}
 use Rattle.demand.proofs.Reopen.{reopen-kept}
 use Rattle.demand.proofs.Restep.{restep-kept}
@@ -69,6 +70,8 @@ accepted-keeps n some s b pass i a = when-open n s b pass refl (λ o. open-store
 accepted-keeps n some s b step i a = when-open n s b step refl (λ o. open-store (open-step n some s b o (open-sweep n some s b o) a)) i a
 accepted-keeps n some s b reopen i a = reopen-kept n some s b i a
 accepted-keeps n some s b restep i a = restep-kept n some s b i a
+accepted-keeps n some s b (mark t m) i a = when-open n s b (mark t m) refl (λ o. open-store (open-mark n some s b o t m a)) i a
+accepted-keeps n some s b (back t m) i a = when-open n s b (back t m) refl (λ o. open-store (open-back n some s b o t m a)) i a
 accepted-keeps n some s b (look q) i a = looked-keeps n s b q i
 
 abbrev Inv : ℕ → Point → Type 0

@@ -1,5 +1,5 @@
 -- An accepted set keeps the invariant. n is the number of pages. Assumes nothing.
-use Prim.Native.Nat.{ℕ, suc, _*_, _≤_, _<_}
+use Prim.Native.Nat.{ℕ, suc, _≤_, _<_}
 use native.Mathlib.Omega.{arith}
 use mathlib.Core.Path.{_≡_, refl, sym, ap, _∙_, subst}
 use mathlib.Core.Bool.{true, cond}
@@ -25,8 +25,10 @@ use Rattle.book.specs.Feeding.{fed, adds}
 use Rattle.collector.specs.Objects.{Obj, put, stamp}
 use Rattle.collector.specs.State.{Tables}
 use Rattle.collector.specs.Calls as C
-use Rattle.collector.proofs.Invariant as Collector
-use Rattle.collector.proofs.Write.{keep-set}
+use Rattle.collector.specs.Undo.{push, itemOf}
+use Rattle.collector.proofs.Worlds.{Deep}
+use Rattle.collector.proofs.Pushing.{deep-set}
+use Rattle.collector.proofs.Known.{known-there}
 use Rattle.machine_calls.specs.Tables.{tablesOf}
 use Rattle.machine_calls.proofs.Areas.{reference}
 use Rattle.machine_calls.proofs.Facts as Facts
@@ -72,11 +74,12 @@ module _ (n : ℕ) (some : 1 ≤ n) (s : Areas) (b : Book) (i : OpenInv n s b) (
     room = g .room;
     own = Facts.own-is s n (machine n s b) (machine-shows n s b) t o (g .txn) (g .object) (g .lock);
     back = set-back r (seenFull b o .object) refl (ap (λ (x : Obj). x .word f) (full-shown n s b i o) ∙ view-word (s .received) o (g .object .low) f (g .field));
+    there = known-there (machine n s b) (i .collector) t o (Facts.set-facts s n (machine n s b) (machine-shows n s b) t o f v m g (omega arith) .known);
     beside = set-beside (s .received) (s .work) n t o f v (h .ranged .received-sound) (g .object .low) (g .object .top) (g .field);
   }
 
-  machine-kept : Collector.Inv (C.written (machine n s b) t o f v m)
-  machine-kept = keep-set (machine n s b) t o f v m (Facts.set-facts s n (machine n s b) (machine-shows n s b) t o f v m g (omega arith)) (i .collector)
+  machine-kept : Deep (C.written (machine n s b) t o f v m) (push (i .going .stack) t (itemOf (machine n s b) o))
+  machine-kept = deep-set t o f v m (machine n s b) (i .going .stack) (Facts.set-facts s n (machine n s b) (machine-shows n s b) t o f v m g (omega arith)) (i .going .deep)
 
   -- what is known stays known
   known-after : (u x : ℕ) → b .known u x ≡ true → tablesOf w n .kn u x ≡ true
@@ -87,7 +90,7 @@ module _ (n : ℕ) (some : 1 ≤ n) (s : Areas) (b : Book) (i : OpenInv n s b) (
   unfolding wordSet
   set-kept = let c = changing in let run = change-runs n some s b i h t r w c (b .known) in
       open-change n some s b i h t r w c (b .known)
-      (collector-after n some s b i h t r w c (b .known) (C.written (machine n s b) t o f v m)
+      (collector-after n some s b i h t r w c (b .known) (push (i .going .stack) t (itemOf (machine n s b) o)) (C.written (machine n s b) t o f v m)
       (set-shows (s .work) n (h .sized .tables .1) (machine n s b) (machine-shows n s b) t o (g .txn) (g .object .low) (g .object .top)
       (s .received) (h .ranged .received-sound) (full-shown n s b i o) f v m (g .field))
       machine-kept _ _ refl refl (λ x. written-at m t o f (wordOf (s .received) o f) v x (seenFull b)))

@@ -11,7 +11,7 @@ use Rattle.words.specs.Spans.{upTo}
 use Rattle.areas.specs.Tables.{at}
 use Rattle.pages.specs.Geometry.{objectCount}
 use Rattle.records.specs.Records.{maskTop}
-use Rattle.areas.specs.Layout.{finished, flaggedTop, stepsTop, colourTop, reopeningAt, reopeningPageAt, phaseAt, passPageAt, stepsAt, activeAt, readersAt, writersAt, unflushedAt, knownAt, prunedAt, createdAt, colourAt}
+use Rattle.areas.specs.Layout.{finished, flaggedTop, stepsTop, colourTop, reopeningAt, reopeningPageAt, phaseAt, passPageAt, stepsAt, activeAt, readersAt, writersAt, unflushedAt, knownAt, prunedAt, createdAt, colourAt, markWords, markedAt, orderAt, undoingAt, changesTop, orderTop, undoingTop}
 use Rattle.areas.specs.Ranges.{rowsInRange, workInRange}
 
 pub up-to-none : (w : List ℕ) (a top : ℕ) → true ≡ upTo w a 0 top
@@ -30,9 +30,9 @@ pub up-to-one : (w : List ℕ) (a top : ℕ) → leb (at w a) top ≡ upTo w a 1
 unfolding upTo all
 up-to-one w a top = let e : a ≡ a + 0 = omega arith in ap (λ (i : ℕ). leb (at w i) top) e
 
--- a run by other names of its place and length
-pub up-to-as : (w : List ℕ) (a b n m top : ℕ) {ok : Bool} → ok ≡ upTo w a n top → a ≡ b → n ≡ m → ok ≡ upTo w b m top
-up-to-as w a b n m top e f g = e ∙ rw (f, g)
+-- a run by other names of its place, length and largest value
+pub up-to-as : (w : List ℕ) (a b n m x y : ℕ) {ok : Bool} → ok ≡ upTo w a n x → a ≡ b → n ≡ m → x ≡ y → ok ≡ upTo w b m y
+up-to-as w a b n m x y e f g h = e ∙ rw (f, g, h)
 
 -- two runs that follow one another are one run
 pub up-to-join : (w : List ℕ) (a m b k n top : ℕ) → b ≡ a + m → n ≡ m + k → upTo w a m top && upTo w b k top ≡ upTo w a n top
@@ -80,16 +80,21 @@ firstInRange w n =
     && leb (at w passPageAt) (n - 1)
     && leb (at w stepsAt) (stepsTop n)
 
--- the tests as the code makes them: the five words, and three runs with the answers x, y and z
-module _ (w : List ℕ) (n l : ℕ) {x y z : Bool} (ex : x ≡ upTo w activeAt (maskWords n) maskTop)
-    (ey : y ≡ upTo w (prunedAt n 1) (flaggedWords n) flaggedTop) (ez : z ≡ upTo w (colourAt n 1) (objectCount n) colourTop) where
-  work-scan : firstInRange w n && x && y && z ≡ workInRange w n l
+-- the tests as the code makes them: the five words, and six runs with the answers x, y, z, a, b and d
+module _ (w : List ℕ) (n l : ℕ) {x y z a b d : Bool} (ex : x ≡ upTo w activeAt (maskWords n) maskTop)
+    (ey : y ≡ upTo w (prunedAt n 1) (flaggedWords n) flaggedTop) (ez : z ≡ upTo w (colourAt n 1) (objectCount n) colourTop)
+    (ea : a ≡ upTo w (markedAt n 0 0) markWords (changesTop l)) (eb : b ≡ upTo w (orderAt n 0 0) markWords (orderTop l))
+    (ed : d ≡ upTo w (undoingAt n 0) l (undoingTop l)) where
+  work-scan : firstInRange w n && x && y && z && a && b && d ≡ workInRange w n l
   unfolding workInRange rowsInRange
   work-scan =
       rw (
         ex ∙ sym (masks w n maskTop),
         ey ∙ sym (flagged w n flaggedTop),
         ez,
+        ea,
+        eb,
+        ed,
         up-to-one w reopeningAt finished,
         up-to-one w reopeningPageAt n,
         up-to-one w phaseAt 2,
@@ -97,10 +102,8 @@ module _ (w : List ℕ) (n l : ℕ) {x y z : Bool} (ex : x ≡ upTo w activeAt (
         up-to-one w stepsAt (stepsTop n),
       ) (simp (and-assoc, and-true))
 
-  pub runs-go : firstInRange w n ≡ true → x && y && z ≡ workInRange w n l
-  runs-go h = ap (λ (b : Bool). b && x && y && z) (sym h) ∙ work-scan
+  pub runs-go : firstInRange w n ≡ true → x && y && z && a && b && d ≡ workInRange w n l
+  runs-go h = ap (λ (f : Bool). f && x && y && z && a && b && d) (sym h) ∙ work-scan
 
-pub first-stops : (w : List ℕ) (n l : ℕ) → firstInRange w n ≡ false → false ≡ workInRange w n l
-first-stops w n l h =
-    ap (λ (b : Bool). b && upTo w activeAt (maskWords n) maskTop && upTo w (prunedAt n 1) (flaggedWords n) flaggedTop && upTo w (colourAt n 1) (objectCount n) colourTop) (sym h)
-    ∙ work-scan w n l refl refl refl
+  pub first-stops : firstInRange w n ≡ false → false ≡ workInRange w n l
+  first-stops h = ap (λ (f : Bool). f && x && y && z && a && b && d) (sym h) ∙ work-scan

@@ -7,7 +7,7 @@ ghost use lib.Dec.{eqb};
 ghost use Rattle.pages.specs.Geometry.{maxPages, pageWords};
 ghost use Rattle.records.specs.Records.{maxRecords, recordWords};
 ghost use Rattle.areas.specs.Areas.{areas, countWords};
-ghost use Rattle.areas.specs.Layout.{workWords, reopeningAt, finished};
+ghost use Rattle.areas.specs.Layout.{workWords, reopeningAt, finished, changesTop, orderTop, undoingTop};
 ghost use Rattle.areas.specs.Tables.{at};
 ghost use Rattle.areas.specs.Ranges.{lengthsFit, countsInRange, workInRange};
 ghost use Rattle.areas.specs.Entry.{wellFormed};
@@ -54,9 +54,30 @@ fn words_up_to(w: &[u32], a: usize, n: usize, top: u32) -> bool
     ok
 }
 
-// Whether the working words of n pages are in range. Tables that follow one another and have the same largest value are one run.
+// The largest values of the words of marks and of the undoing words, with a log of l records.
+fn changes_top(l: usize) -> u32
+    requires { ⌜ l ≤ maxRecords ⌝ }
+    ensures { λ r. ⌜ r ≡ changesTop l ⌝ }
+{
+    if l < 2 { 0 } else { (l as u32 - 2) / 2 }
+}
+
+fn order_top(l: usize) -> u32
+    ensures { λ r. ⌜ r ≡ orderTop l ⌝ }
+{
+    if 1 < l { layout::MARKS } else { 0 }
+}
+
+fn undoing_top(l: usize) -> u32
+    ensures { λ r. ⌜ r ≡ undoingTop l ⌝ }
+{
+    if 3 < l { 1 } else { 0 }
+}
+
+// Whether the working words of n pages and l records are in range. Tables that follow one another and have the same largest value are
+// one run.
 fn work_in_range(w: &[u32], n: usize, l: usize) -> bool
-    requires { ⌜ (length (now w) ≡ workWords n l) × (1 ≤ n) × (n ≤ maxPages) ⌝ }
+    requires { ⌜ (length (now w) ≡ workWords n l) × (1 ≤ n) × (n ≤ maxPages) × (l ≤ maxRecords) ⌝ }
     ensures { λ r. ⌜ r ≡ workInRange (now (w .entry)) n l ⌝ }
 {
     let m = n as u32;
@@ -69,9 +90,15 @@ fn work_in_range(w: &[u32], n: usize, l: usize) -> bool
     }
     let flagged = layout::pruned_at(n, 1);
     let colours = layout::colour_at(n, 1);
+    let marks = layout::marked_at(n, 0, 0);
+    let order = layout::order_at(n, 0, 0);
+    let undoing = layout::undoing_at(n, 0);
     words_up_to(w, layout::ACTIVE_AT, flagged - layout::ACTIVE_AT, MASK_TOP)
         & words_up_to(w, flagged, colours - flagged, layout::FLAGGED_TOP)
         & words_up_to(w, colours, SLOTS * n, layout::BLACK)
+        & words_up_to(w, marks, order - marks, changes_top(l))
+        & words_up_to(w, order, undoing - order, order_top(l))
+        & words_up_to(w, undoing, l, undoing_top(l))
 }
 
 // Whether everything that refusal 1 looks at besides the lengths is in range: n pages, l records. The first area that is not ends it.

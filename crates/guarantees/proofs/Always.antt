@@ -1,15 +1,15 @@
 -- A store is fine at every point of every list of calls and cuts. n is the number of pages. Assumes nothing.
 use Prim.Native.Nat.{ℕ, zero, suc, _+_, _*_, _≤_, _<_}
 use native.Mathlib.Omega.{arith}
-use mathlib.Core.Path.{_≡_, refl, sym, ap, _∙_}
+use mathlib.Core.Path.{_≡_, refl, sym, ap, _∙_, subst}
 use mathlib.Core.Bool.{Bool, true, false}
 use mathlib.Core.List.{List, [], _∷_, _++_}
 use lib.ListN.{length, set, take, drop, replicate, length-set, length-replicate}
 use lib.Seq.{getD-set-same, getD-set-other}
 use lib.Dec.{eqb, ltb}
-use borrow.Author.Tests.{ltb-true, eqb-false, ne-eqb}
+use borrow.Author.Tests.{ltb-true, leb-true, eqb-false, ne-eqb}
 use Rattle.words.specs.Tests.{by-bool}
-use Rattle.words.specs.Spans.{zero-at}
+use Rattle.words.specs.Spans.{fill, length-fill, zero-at}
 use Rattle.pages.specs.Geometry.{slotWords, pageWords, maxPages}
 use Rattle.pages.specs.Objects.{wordOf, formattedPages}
 use Rattle.pages.specs.Soundness.{areaSound}
@@ -20,11 +20,12 @@ use Rattle.record_laws.specs.EffectLaws.{length-recovered}
 use Rattle.areas.specs.declared.Check.the-variants.{Accept}
 use Rattle.areas.specs.Answers.{accepted, Test, verdict}
 use Rattle.areas.specs.Areas.{Areas, Out, receivedCount, stableCount}
-use Rattle.areas.specs.Layout.{reopeningPageAt, phaseAt, passPageAt, workWords}
+use Rattle.areas.specs.Layout.{reopeningPageAt, phaseAt, passPageAt, undoingAt, workWords}
 use Rattle.areas.specs.Tables.{at}
 use Rattle.areas.specs.Entry.{pages, records, reopening}
 use Rattle.calls.specs.Calls.{Call, reopens, perform}
-use Rattle.calls.specs.Calls.Call.{begin, commit, abort, lockRead, lockWrite, read, create, setWord, flush, force, store, empty, pass, step, reopen, restep, look}
+use Rattle.calls.specs.Calls.Call.{begin, commit, abort, lockRead, lockWrite, read, create, setWord, flush, force, store, empty, pass, step, reopen, restep, mark, back, look}
+use Rattle.calls.specs.Marks.{backTo}
 use Rattle.calls.specs.Formatting.{formatted, cut}
 use Rattle.calls.specs.Pass.{advanced, freedMap, sweepMap, locked, sweepTests, lowestGrey, callStep}
 use Rattle.calls.specs.Reopening.{callReopen, reopened, pageStored, reopeningOver, callRestep}
@@ -38,11 +39,12 @@ use Rattle.acceptance.specs.Locks.{lock-read-outcome, lock-read-facts, lock-wri
 use Rattle.acceptance.specs.Objects.{read-outcome, read-facts, create-outcome, create-facts, set-outcome, set-facts, flush-outcome, flush-facts}
 use Rattle.acceptance.specs.Stability.{force-outcome, store-outcome, store-facts, empty-outcome}
 use Rattle.acceptance.specs.Pass.{pass-outcome, step-outcome, step-facts, step-way, StepWay, scans, turns, sweeps, sweepMapOf, sweeping, sweep-facts, stepped}
+use Rattle.acceptance.specs.Marks.{mark-outcome, mark-facts, back-outcome, back-facts}
 use Rattle.acceptance.specs.Room.{Room}
 use Rattle.acceptance.specs.Reopening.{reopen-ran, ReopenFacts, reopen-facts, restep-outcome, restep-facts}
 use Rattle.book.specs.Lines.{pagesAfter, filtered}
 use Rattle.book.specs.Books.{Book, blank, awaiting, storing, committedLines, committedPages, stopped}
-use Rattle.book.specs.Feeding.{fed}
+use Rattle.book.specs.Feeding.{fed, goesBack}
 use Rattle.book.specs.Demand.{Event, call, power, Point, accepts, after, start}
 use Rattle.collector.specs.State as M
 use Rattle.machine_calls.specs.Tables.{phaseOf}
@@ -61,6 +63,8 @@ use Rattle.demand.proofs.Write.{open-set}
 use Rattle.demand.proofs.Flush.{open-flush}
 use Rattle.demand.proofs.Stability.{open-force, open-store as open-store-page, open-empty}
 use Rattle.demand.proofs.Passing.{open-pass, open-step}
+use Rattle.demand.proofs.Marks as Marks
+use Rattle.demand.proofs.Marks.{open-mark, open-back}
 use Rattle.demand.proofs.Holds.{sweeping-phase}
 use Rattle.demand.proofs.HoldsWaiting.{step-entered}
 use Rattle.demand.proofs.Sweep.{open-sweep, lines-fed}
@@ -70,10 +74,12 @@ use Rattle.demand.proofs.Restep.{restep-kept}
 use Rattle.demand.proofs.Start.{start-inv}
 use Rattle.demand.proofs.Theorem.{keep}
 use Rattle.guarantees.proofs.Through.{through}
-use Rattle.guarantees.proofs.Tables.{Within, set-within, word, reopening-page, read-locked-within, write-locked-within, learned-within, started-within, scanning-within, turning-within, advanced-within, clear-within}
+use Rattle.guarantees.proofs.Tables.{Within, set-within, word, reopening-page, read-locked-within, write-locked-within, learned-within, started-within, scanning-within, turning-within, advanced-within, emptied-within, clear-within}
 use Rattle.guarantees.proofs.Sound.{Firm, firm-stop}
-use Rattle.guarantees.proofs.Fine.{Fine, resized, in-range, open-fine, held-none, quiet-fine}
-use Rattle.guarantees.proofs.Keeps.{within, begun-fine, created-fine, set-fine, committed-fine, aborted-fine, flushed-fine, stored-fine, forced-fine, emptied-fine, swept-fine}
+use Rattle.guarantees.proofs.Fine.{Fine, resized, in-range, open-fine, quiet-fine}
+use Rattle.guarantees.proofs.Reserve.{held-none}
+use Rattle.guarantees.proofs.Keeps.{within, begun-fine, created-fine, set-fine, committed-fine, flushed-fine, stored-fine, forced-fine, emptied-fine, swept-fine}
+use Rattle.guarantees.proofs.Undone.{aborted-fine, marked-fine, back-fine}
 use Rattle.acceptance.specs.Looks.{look-keeps}
 
 -- the invariant, by the reopening word
@@ -101,7 +107,7 @@ storing-fine n some s b (reopening-store j l i) e z st k f =
       stored = st;
       stable-le = k;
       firm = f;
-      range = λ no. in-range n s some (omega arith) (omega arith) (clear-within (s .work) n some (z .work-len) (i .clear) (omega arith) (let p = i .page in omega arith))
+      range = λ no. in-range n s some (omega arith) (omega arith) (clear-within (s .work) n (records s) some (z .work-len) (i .clear) (omega arith) (let p = i .page in omega arith))
           (rw (i .received) sound) (rw (i .copies) sound) (rw c (log-sound-records n (s .log) (stableCount s) (i .waiting .order)));
       room = λ d. absurd (omega arith);
     }
@@ -130,20 +136,22 @@ module _ (n : ℕ) (some : 1 ≤ n) (s : Areas) (b : Book) (k : ℕ) (i : Storin
       (copied-sound n (s .copies) (s .stored) p (z .copies-len) (z .stored-len) l sound (f .stored))
       (f .stable-le) (rw (o, e, d) (f .firm))
 
-  over-fine : (b′ : Book) → b′ .origin ≡ b .origin → b′ .lines ≡ b .lines → b′ .stable ≡ b .stable → Inv3 n (reopeningOver s) b′ → Fine n (reopeningOver s) b′
+  over-fine : (b′ : Book) → b′ .origin ≡ b .origin → b′ .lines ≡ b .lines → b′ .stable ≡ b .stable → b′ .running ≡ b .running → Inv3 n (reopeningOver s n) b′ → Fine n (reopeningOver s n) b′
   unfolding reopeningOver committedLines committedOf
-  over-fine b′ o e d j = let z = f .sized in
+  over-fine b′ o e d r j = let z = f .sized in
       let sound : areaSound (committedPages b) n ≡ true = f .firm 0 (omega arith) in
-      let w : Within (s .work) n = clear-within (s .work) n some (z .work-len) (i .clear) (let y = i .word in omega arith) (let y = entered .reopening-page in y) in
-      let v : Within (reopeningOver s .work) n = set-within _ n 1 0 (set-within (s .work) n 0 2 w (word refl (omega arith))) (reopening-page refl (omega arith)) in
-      let count : receivedCount (reopeningOver s) ≡ 0 = getD-set-other (set (s .counts) 0 0) 1 0 0 0 (λ y. omega arith) ∙ getD-set-same (s .counts) 0 0 0 (let y = z .counts-len in omega arith) in
-      let none = held-none (s .log) (receivedCount (reopeningOver s)) count in
-      let two : reopening (reopeningOver s) ≡ 2 = getD-set-other (set (s .work) 0 2) 1 0 0 0 (λ y. omega arith) ∙ getD-set-same (s .work) 0 2 0 (let y = z .work-len in omega arith) in
-      open-fine n some (reopeningOver s) b′ (as-open n (reopeningOver s) b′ j two)
-      (resized n s (reopeningOver s) z refl refl refl refl (length-set (set (s .counts) 0 0) 1 0 ∙ length-set (s .counts) 0 0) (v .size))
+      let w : Within (s .work) n (records s) = clear-within (s .work) n (records s) some (z .work-len) (i .clear) (let y = i .word in omega arith) (let y = entered .reopening-page in y) in
+      let v : Within (reopeningOver s n .work) n (records s) = set-within _ n (records s) 1 0 (set-within _ n (records s) 0 2 (emptied-within (s .work) n (records s) w (records s)) (word refl (omega arith))) (reopening-page refl (omega arith)) in
+      let count : receivedCount (reopeningOver s n) ≡ 0 = getD-set-other (set (s .counts) 0 0) 1 0 0 0 (λ y. omega arith) ∙ getD-set-same (s .counts) 0 0 0 (let y = z .counts-len in omega arith) in
+      let none = held-none b′ (λ t. ap (λ (g : ℕ → ℕ). g t) r ∙ i .waiting .idle t) in
+      let w₀ = fill (λ t. 0) (s .work) (undoingAt n 0) (records s) in
+      let two : reopening (reopeningOver s n) ≡ 2 = getD-set-other (set w₀ 0 2) 1 0 0 0 (λ y. omega arith)
+      ∙ getD-set-same w₀ 0 2 0 (let x = length-fill (λ t. 0) (s .work) (undoingAt n 0) (records s) in let y = z .work-len in omega arith) in
+      open-fine n some (reopeningOver s n) b′ (as-open n (reopeningOver s n) b′ j two)
+      (resized n s (reopeningOver s n) z refl refl refl refl (length-set (set (s .counts) 0 0) 1 0 ∙ length-set (s .counts) 0 0) (v .size))
       (f .stored) v (rw (i .received) sound) (rw (i .copies) sound) (rw (o, e, d) (f .firm)) (omega arith)
     where
-      entered : Working (s .work) n
+      entered : Working (s .work) n (records s)
       entered = step-entered n some s b k i a .0 .ranged (λ y. let w = i .word in omega arith) .working
 
 restep-fine : (n : ℕ) → 1 ≤ n → (s : Areas) (b : Book) → Fine n s b → Inv3 n s b → accepted (callRestep s .answer) ≡ true
@@ -156,7 +164,7 @@ restep-fine n some s b f v a j =
     let g = step-entered n some s b k i a .1 in
     by-bool (ltb p n)
     (λ e. let d : callRestep s .after ≡ pageStored s p = g ∙ rw e refl in rw d (page-fine n some s b k i f a _ p refl refl refl (ltb-true p n e) (rw d at j)))
-    (λ e. let d : callRestep s .after ≡ reopeningOver s = g ∙ rw e refl in rw d (over-fine n some s b k i f a _ refl refl refl (rw d at j)))
+    (λ e. let d : callRestep s .after ≡ reopeningOver s n = g ∙ rw e refl in rw d (over-fine n some s b k i f a _ refl refl refl refl (rw d at j)))
 
 -- an accepted call of an open store, by what it went through
 fine-through : (own : Bool) (s : Areas) (tests : ℕ → List Test) (o : Out) (k : ℕ → Out) (n : ℕ) (b′ : Book) → Outcome true own s tests o k → accepted (o .answer) ≡ true → pages s ≡ n
@@ -164,28 +172,28 @@ fine-through : (own : Bool) (s : Areas) (tests : ℕ → List Test) (o : Out) (k
 fine-through own s tests o k n b′ h a size j f = through own s tests o k n (λ x. OpenInv n x b′ → Fine n x b′) h a size f j
 
 -- a pass step
-sweep-fine : (n : ℕ) → 1 ≤ n → (s : Areas) (b : Book) → OpenInv n s b → Fine n s b → Open s n → phaseOf (at (s .work) phaseAt) ≡ M.sweeping → verdict (sweepTests s (sweepMapOf s n)) ≡ Accept → (sweepMapOf s n ≡ 0 → ⊥)
+sweep-fine : (n : ℕ) → 1 ≤ n → (s : Areas) (b : Book) → OpenInv n s b → Fine n s b → Open s n → phaseOf (at (s .work) phaseAt) ≡ M.sweeping → verdict (sweepTests s n (sweepMapOf s n)) ≡ Accept → (sweepMapOf s n ≡ 0 → ⊥)
     → OpenInv n (sweeping s n .after) (fed n b step (s .received) (sweeping s n .after .received)) → Fine n (sweeping s n .after) (fed n b step (s .received) (sweeping s n .after .received))
 unfolding fed freedMap
 sweep-fine n some s b i f h ph check on j = let p = at (s .work) passPageAt in by-bool (locked (s .work) n p)
     (λ e. absurd (on (rw e refl)))
     (λ e. let m = sweepMap (s .copies) (s .work) n p in
     let z : m ≡ 0 → ⊥ = rw e at on in
-    let r : Room s 1 = sweep-facts s (sweepMapOf s n) check .room on in
+    let r : Room s n 1 = sweep-facts s n (sweepMapOf s n) check .room on in
     rw (e, ne-eqb m 0 z, lines-fed n some s b i h ph e z r)
-    (swept-fine n some s b i f h p m (advanced (s .work) n p) (h .ranged .working .pass-page) r (advanced-within (s .work) n some (within n some s b i f h) p)
+    (swept-fine n some s b i f h p m (advanced (s .work) n p) (h .ranged .working .pass-page) r (advanced-within (s .work) n (records s) some (within n some s b i f h) p)
     (rw (e, ne-eqb m 0 z, lines-fed n some s b i h ph e z r) at j)))
 
 step-fine : (n : ℕ) → 1 ≤ n → (s : Areas) (b : Book) → OpenInv n s b → Fine n s b → Open s n → (at (s .work) phaseAt ≡ 0 → ⊥) → (o : Out) → StepWay s n o
     → OpenInv n (o .after) (fed n b step (s .received) (o .after .received)) → Fine n (o .after) (fed n b step (s .received) (o .after .received))
 unfolding fed
-step-fine n some s b i f h ph o (scans m l d) j = rw d (quiet-fine n some s b _ _ (rw d at j) f h (scanning-within (s .work) n some (within n some s b i f h) (s .copies) (lowestGrey (s .work) n))
-    refl (sweep-kept (s .received) (s .received) (b .lines) n (λ q k. refl)) refl)
-step-fine n some s b i f h ph o (turns m l d) j = rw d (quiet-fine n some s b _ _ (rw d at j) f h (turning-within (s .work) n some (within n some s b i f h))
-    refl (sweep-kept (s .received) (s .received) (b .lines) n (λ q k. refl)) refl)
+step-fine n some s b i f h ph o (scans m l d) j = rw d (quiet-fine n some s b _ _ (rw d at j) f h (scanning-within (s .work) n (records s) some (within n some s b i f h) (s .copies) (lowestGrey (s .work) n) (leb-true _ _ l))
+    refl (sweep-kept (s .received) (s .received) (b .lines) n (λ q k. refl)) refl refl)
+step-fine n some s b i f h ph o (turns m l d) j = rw d (quiet-fine n some s b _ _ (rw d at j) f h (turning-within (s .work) n (records s) some (within n some s b i f h))
+    refl (sweep-kept (s .received) (s .received) (b .lines) n (λ q k. refl)) refl refl)
 step-fine n some s b i f h ph o (sweeps m c d) j = rw d (by-bool (eqb (sweepMapOf s n) 0)
-    (λ e. rw e (quiet-fine n some s b _ _ (rw (d, e) at j) f h (advanced-within (s .work) n some (within n some s b i f h) (at (s .work) passPageAt))
-    refl (sweep-kept (s .received) (s .received) (b .lines) n (λ q k. refl)) refl))
+    (λ e. rw e (quiet-fine n some s b _ _ (rw (d, e) at j) f h (advanced-within (s .work) n (records s) some (within n some s b i f h) (at (s .work) passPageAt))
+    refl (sweep-kept (s .received) (s .received) (b .lines) n (λ q k. refl)) refl refl))
     (λ e. sweep-fine n some s b i f h (sweeping-phase (at (s .work) phaseAt) ph m) c (eqb-false _ _ e) (rw d at j)))
 
 -- every accepted call
@@ -193,27 +201,27 @@ module _ (n : ℕ) (some : 1 ≤ n) (s : Areas) (b : Book) (f : Fine n s b) (v :
   here : (c : Call) → reopens c ≡ false → accepted (perform s c .answer) ≡ true → OpenInv n s b
   here c r a = as-open n s b v (accepted-open s c r a)
 
-  table : OpenInv n s b → Open s n → Within (s .work) n
+  table : OpenInv n s b → Open s n → Within (s .work) n (records s)
   table i h = within n some s b i f h
 
   pub accepted-fine : (c : Call) → accepted (perform s c .answer) ≡ true → Fine n (perform s c .after) (fed n b c (s .received) (perform s c .after .received))
   unfolding perform fed
   accepted-fine (begin t) a = let i = here (begin t) refl a in
-      fine-through true s _ _ _ n _ (begin-outcome s t) a (i .size) (open-begin n some s b i t a) (λ h k j. begun-fine n some s b i f h t (begin-facts s t k) j)
+      fine-through true s _ _ _ n _ (begin-outcome s t) a (i .size) (open-begin n some s b i t a) (λ h k j. begun-fine n some s b i f h t (begin-facts s n t k) j)
   accepted-fine (commit t) a = let i = here (commit t) refl a in
       fine-through true s _ _ _ n _ (commit-outcome s t) a (i .size) (open-commit n some s b i t a) (λ h k j. committed-fine n some s b i f h t (commit-facts s n t k) j)
   accepted-fine (abort t) a = let i = here (abort t) refl a in
-      fine-through true s _ _ _ n _ (abort-outcome s t) a (i .size) (open-abort n some s b i t a) (λ h k j. aborted-fine n some s b i f h t (abort-facts s t k) j)
+      fine-through true s _ _ _ n _ (abort-outcome s t) a (i .size) (open-abort n some s b i t a) (λ h k j. aborted-fine n some s b i f h t (abort-facts s n t k))
   accepted-fine (lockRead t p) a = let i = here (lockRead t p) refl a in
       fine-through true s _ _ _ n _ (lock-read-outcome s t p) a (i .size) (open-lock-read n some s b i t p a)
-      (λ h k j. let g = lock-read-facts s n t p k in quiet-fine n some s b b _ j f h (read-locked-within (s .work) n some (table i h) t p (g .txn) (g .page)) refl refl refl)
+      (λ h k j. let g = lock-read-facts s n t p k in quiet-fine n some s b b _ j f h (read-locked-within (s .work) n (records s) some (table i h) t p (g .txn) (g .page)) refl refl refl refl)
   accepted-fine (lockWrite t p) a = let i = here (lockWrite t p) refl a in
       fine-through true s _ _ _ n _ (lock-write-outcome s t p) a (i .size) (open-lock-write n some s b i t p a)
-      (λ h k j. let g = lock-write-facts s n t p k in quiet-fine n some s b b _ j f h (write-locked-within (s .work) n some (table i h) t p (g .txn) (g .page)) refl refl refl)
+      (λ h k j. let g = lock-write-facts s n t p k in quiet-fine n some s b b _ j f h (write-locked-within (s .work) n (records s) some (table i h) t p (g .txn) (g .page)) refl refl refl refl)
   accepted-fine (read t x buffer) a = let i = here (read t x buffer) refl a in
       fine-through (eqb (length buffer) slotWords) s _ _ _ n _ (read-outcome s t x buffer) a (i .size) (open-read n some s b i t x buffer a)
       (λ h k j. let g = read-facts s n t x k in quiet-fine n some s b _ _ j f h
-      (learned-within (s .work) n some (table i h) (s .received) t x (h .ranged .received-sound) (g .txn) (g .object .low) (g .object .top) 8 (omega arith)) refl refl refl)
+      (learned-within (s .work) n (records s) some (table i h) (s .received) t x (h .ranged .received-sound) (g .txn) (g .object .low) (g .object .top) 8 (omega arith)) refl refl refl refl)
   accepted-fine (create t x) a = let i = here (create t x) refl a in
       fine-through true s _ _ _ n _ (create-outcome s t x) a (i .size) (open-create n some s b i t x a) (λ h k j. created-fine n some s b i f h t x (create-facts s n t x k) j)
   accepted-fine (setWord t x g w) a = let i = here (setWord t x g w) refl a in
@@ -223,14 +231,20 @@ module _ (n : ℕ) (some : 1 ≤ n) (s : Areas) (b : Book) (f : Fine n s b) (v :
       fine-through (eqb (length image) pageWords) s _ _ _ n _ (flush-outcome s t p image) a (i .size) (open-flush n some s b i t p image a)
       (λ h k j. let g = flush-facts s n t p image k in flushed-fine n some s b i f h t p (g .txn) (g .page) j)
   accepted-fine force a = let i = here force refl a in
-      fine-through true s _ _ _ n _ (force-outcome s) a (i .size) (open-force n some s b i a) (λ h k j. forced-fine n some s b i f h _ refl refl refl j)
+      fine-through true s _ _ _ n _ (force-outcome s) a (i .size) (open-force n some s b i a) (λ h k j. forced-fine n some s b i f h _ refl refl refl refl j)
   accepted-fine (store p) a = let i = here (store p) refl a in
       fine-through true s _ _ _ n _ (store-outcome s p) a (i .size) (open-store-page n some s b i p a) (λ h k j. stored-fine n some s b i f h p (store-facts s n p k .page) j)
   accepted-fine empty a = let i = here empty refl a in
       fine-through true s _ _ _ n _ (empty-outcome s) a (i .size) (open-empty n some s b i a) (λ h k j. emptied-fine n some s b i f h j)
+  accepted-fine (mark t m) a = let i = here (mark t m) refl a in
+      fine-through true s _ _ _ n _ (mark-outcome s t m) a (i .size) (open-mark n some s b i t m a) (λ h k j. marked-fine n some s b i f h t m (mark-facts s t m k) j)
+  accepted-fine (back t m) a = let i = here (back t m) refl a in
+      fine-through true s _ _ _ n _ (back-outcome s t m) a (i .size) (open-back n some s b i t m a)
+      (λ h k j. let g = back-facts s n t m k in let e = Marks.count n some s b i h t m g in
+      subst (λ (c : ℕ). Fine n (backTo s n t m) (goesBack c b t)) e (back-fine n some s b i f h t m g (subst (λ (c : ℕ). OpenInv n (backTo s n t m) (goesBack c b t)) (sym e) j)))
   accepted-fine (look q) a = rw (look-keeps s q) f
   accepted-fine pass a = let i = here pass refl a in
-      fine-through true s _ _ _ n _ (pass-outcome s) a (i .size) (open-pass n some s b i a) (λ h k j. quiet-fine n some s b b _ j f h (started-within (s .work) n some (table i h)) refl refl refl)
+      fine-through true s _ _ _ n _ (pass-outcome s) a (i .size) (open-pass n some s b i a) (λ h k j. quiet-fine n some s b b _ j f h (started-within (s .work) n (records s) some (table i h)) refl refl refl refl)
   accepted-fine step a = let i = here step refl a in
       let k = step-outcome s .ran a in
       let p = opened true s (k .n) (k .ready) in
@@ -259,7 +273,7 @@ cut-fine n s b f =
     let none : reopening (cut s) ≡ 0 = zero-at (length (s .work)) 0 in
     record {
       sized = resized n s (cut s) z refl (length-replicate {A = ℕ} (length (s .copies)) 0) (length-replicate {A = ℕ} (length (s .received)) 0) g
-          (length-set (zeros (length (s .counts))) 1 (stableCount s) ∙ length-replicate {A = ℕ} (length (s .counts)) 0) (length-replicate {A = ℕ} (length (s .work)) 0 ∙ z .work-len);
+          (length-set (zeros (length (s .counts))) 1 (stableCount s) ∙ length-replicate {A = ℕ} (length (s .counts)) 0) (length-replicate {A = ℕ} (length (s .work)) 0 ∙ rw g (z .work-len));
       stored = f .stored;
       stable-le = rw (c, g) (f .stable-le);
       firm = firm-stop n awaiting b (f .firm);
@@ -278,8 +292,8 @@ module _ (n l : ℕ) (some : 1 ≤ n) (most : n ≤ maxPages) (low : 1 ≤ l) (f
       let p : length (s .stored) ≡ pageWords * n = formatted-length n some in
       let g : length (s .log) ≡ recordWords * l = length-replicate {A = ℕ} (recordWords * l) 0 in
       let e : records s ≡ l = rw g (omega arith) in
-      let none = held-none (s .log) 0 refl in
       let b = blank (formattedPages n) in
+      let none = held-none b (λ t. refl) in
       open-fine n some s b (as-open n s b (start-inv n l some) two)
       (record {
         count = rw p (omega arith);
@@ -292,11 +306,12 @@ module _ (n l : ℕ) (some : 1 ≤ n) (most : n ≤ maxPages) (low : 1 ≤ l) (f
         log-top = omega arith;
         log-len = omega arith;
         counts-len = refl;
-        work-len = w;
+        work-len = rw e w;
         tables = (most, omega arith);
+        undoing = (most, omega arith);
       })
       (formatted-sound n some)
-      (clear-within (s .work) n some w (λ i h. getD-set-other (zeros (workWords n l)) 0 i 2 0 (λ z. omega arith) ∙ zero-at (workWords n l) i) (omega arith)
+      (clear-within (s .work) n (records s) some (rw e w) (λ i h. getD-set-other (zeros (workWords n l)) 0 i 2 0 (λ z. omega arith) ∙ zero-at (workWords n l) i) (omega arith)
       (let z = getD-set-other (zeros (workWords n l)) 0 1 2 0 (λ y. omega arith) ∙ zero-at (workWords n l) 1 in omega arith))
       (formatted-sound n some) (formatted-sound n some) (λ j h. let z : j ≡ 0 = omega arith in rw z (formatted-sound n some)) (omega arith)
 

@@ -18,7 +18,7 @@ use Rattle.areas.specs.Answers.{unless, verdict}
 use Rattle.areas.specs.Areas.{Areas, Out, done, checked, withWork}
 use Rattle.areas.specs.Layout.{readersAt, writersAt}
 use Rattle.areas.specs.Tables.{at, has, isTxn, isActive, canRead}
-use Rattle.areas.specs.Entry.{pages, wellFormed, isReady, called}
+use Rattle.areas.specs.Entry.{pages, records, wellFormed, isReady, called}
 use Rattle.calls.specs.Locks.{noOther, holderOf, lockReadTests, readLocked, callLockRead, lockWriteTests, writeLocked, callLockWrite}
 use Rattle.calls.specs.Calls.{perform, lockRead, lockWrite}
 use Rattle.acceptance.specs.Entered.{open-formed}
@@ -143,7 +143,7 @@ module _ (s : Areas) (t p h : ℕ) where
   pub page-in : isTxn t && ltb p n ≡ true → p < n
   page-in e = ltb-true p n (and-split (isTxn t) (ltb p n) e .1)
 
-  working : wellFormed true s ≡ true → isReady true s ≡ true → Working (s .work) n
+  working : wellFormed true s ≡ true → isReady true s ≡ true → Working (s .work) n (records s)
   working e d = open-formed true s e (eqb-true _ _ d) .ranged .working
 
   -- another writes the page

@@ -1,10 +1,11 @@
 -- The masks of the pages are what the ledger of locks says, at every point of every list. n is the number of pages. Assumes nothing.
-use Prim.Native.Nat.{ℕ, _≤_, _<_}
+use Prim.Native.Nat.{ℕ, _+_, _≤_, _<_}
 use native.Mathlib.Omega.{arith}
 use mathlib.Core.Path.{_≡_, refl, sym, ap, _∙_}
 use mathlib.Core.Bool.{Bool, true, false, not, _&&_, _||_}
 use mathlib.Core.List.{List}
-use lib.ListN.{length, set, replicate}
+use mathlib.Core.Logic.{inl, inr}
+use lib.ListN.{length, replicate}
 use lib.Seq.{getD-set-other}
 use lib.Dec.{eqb, ltb}
 use Rattle.words.specs.Tests.{by-bool, or-true, or-false}
@@ -13,23 +14,26 @@ use Rattle.pages.specs.Geometry.{pageWords, slotWords}
 use Rattle.records.specs.Records.{txnCount}
 use Rattle.areas.specs.Answers.{accepted}
 use Rattle.areas.specs.Areas.{Areas, Out}
-use Rattle.areas.specs.Layout.{phaseAt, reopeningPageAt, tableWords, workWords}
+use Rattle.areas.specs.Layout.{phaseAt, reopeningAt, reopeningPageAt, finished, tableWords, undoingAt, workWords, markCount}
 use Rattle.areas.specs.Tables.{at}
-use Rattle.areas.specs.Entry.{pages}
+use Rattle.areas.specs.Entry.{pages, records}
 use Rattle.calls.specs.Calls.{Call, reopens, perform}
-use Rattle.calls.specs.Calls.Call.{begin, commit, abort, lockRead, lockWrite, read, create, setWord, flush, force, store, empty, pass, step, reopen, restep, look}
+use Rattle.calls.specs.Calls.Call.{begin, commit, abort, lockRead, lockWrite, read, create, setWord, flush, force, store, empty, pass, step, reopen, restep, mark, back, look}
 use Rattle.calls.specs.Formatting.{formatted, cut}
 use Rattle.calls.specs.Locks.{readLocked, writeLocked}
 use Rattle.calls.specs.Objects.{created, wordSet, flushed}
 use Rattle.calls.specs.Pass.{callStep}
 use Rattle.calls.specs.Reopening.{reopened, pageStored, reopeningOver, callRestep}
 use Rattle.calls.specs.Transactions.{begun, endedTables, committed, aborted}
+use Rattle.calls.specs.Stability.{emptied}
+use Rattle.calls.specs.Marks.{markSet, backTo}
 use Rattle.acceptance.specs.Calls.{refused-keeps}
 use Rattle.acceptance.specs.Entered.{Open, opened}
 use Rattle.acceptance.specs.Transactions.{begin-outcome, begin-facts, commit-outcome, abort-outcome}
 use Rattle.acceptance.specs.Locks.{lock-read-outcome, lock-read-facts, lock-write-outcome, lock-write-facts}
 use Rattle.acceptance.specs.Objects.{read-outcome, read-facts, create-outcome, create-facts, set-outcome, set-facts, flush-outcome, flush-facts}
 use Rattle.acceptance.specs.Stability.{force-outcome, store-outcome, empty-outcome}
+use Rattle.acceptance.specs.Marks.{mark-outcome, mark-facts, back-outcome, back-facts}
 use Rattle.acceptance.specs.Looks.{look-keeps}
 use Rattle.acceptance.specs.Pass.{pass-outcome, step-outcome, step-facts, step-way, StepWay, scans, turns, sweeps, stepped}
 use Rattle.acceptance.specs.Reopening.{reopen-ran}
@@ -45,14 +49,17 @@ use Rattle.machine_calls.proofs.Begun.{begin-locks}
 use Rattle.machine_calls.proofs.Created.{create-locks}
 use Rattle.machine_calls.proofs.Ended.{ended-locks}
 use Rattle.machine_calls.proofs.Flushed.{flush-locks}
+use Rattle.machine_calls.proofs.Frames.{beside-set, beside-fill, locks-kept}
 use Rattle.machine_calls.proofs.Learned.{read-locks}
 use Rattle.machine_calls.proofs.Locking.{lock-read-locks, lock-write-locks}
+use Rattle.machine_calls.proofs.TakenBack.{dropped-beside}
 use Rattle.machine_calls.proofs.Written.{set-locks}
 use Rattle.machine_pass.proofs.Start.{start-locks}
 use Rattle.demand.proofs.State.{OpenInv, Inv3}
 use Rattle.demand.proofs.Finished.{accepted-open}
 use Rattle.demand.proofs.Holds.{sweeping-phase}
 use Rattle.demand.proofs.HoldsWaiting.{step-entered, storing-opened}
+use Rattle.demand.proofs.Marks.{mark-beside, gone, open-back}
 use Rattle.demand.proofs.Passing.{scan-same, turn-same, advance-same}
 use Rattle.demand.proofs.Rest.{no-locks}
 use Rattle.guarantees.specs.Disks.{fromDisk}
@@ -78,9 +85,6 @@ clear-agrees n w clear = let e = no-locks n w clear in record {
   writers = λ u p. sym (ap (λ (k : Locks). k .wr u p) e);
   holders = λ u p. sym (ap (λ (k : Locks). k .rd u p || k .wr u p) e);
 }
-
-clear-kept : (n : ℕ) (w v : List ℕ) (l : Granted) → ((i : ℕ) → 2 ≤ i → at w i ≡ 0) → ((i : ℕ) → 2 ≤ i → at v i ≡ 0) → Agrees n w l → Agrees n v l
-clear-kept n w v l c d = kept-locks n w v l (no-locks n v d ∙ sym (no-locks n w c))
 
 -- the bits of one transaction and page: r, w by the ledger, x, y by the masks; a, b: they are those of the call
 read-bits : (r w x a b : Bool) → (r || w) ≡ (x || w) → ((r || (a && b)) || w) ≡ ((x or (a and b and not w)) || w)
@@ -142,9 +146,12 @@ step-agrees n some s b i h ph l a o (turns m g d) = rw d (kept-locks n (s .work)
 step-agrees n some s b i h ph l a o (sweeps m c d) = rw d (kept-locks n (s .work) _ l (advance-same n some s b i h (sweeping-phase (at (s .work) phaseAt) ph m)) a)
 
 -- a reopen, and its steps
-reopen-clear : (s : Areas) (j : ℕ) → 2 ≤ j → at (reopened s .work) j ≡ 0
+pub reopen-clear : (s : Areas) (j : ℕ) → 2 ≤ j → at (reopened s .work) j ≡ 0
 unfolding reopened
 reopen-clear s j h = getD-set-other (replicate (length (s .work)) 0) 0 j 1 0 (λ z. omega arith) ∙ zero-at (length (s .work)) j
+
+emptied-locks : (n : ℕ) (s : Areas) → locksOf (emptied s n .work) n ≡ locksOf (s .work) n
+emptied-locks n s = locks-kept (beside-fill (λ j. 0) (s .work) (undoingAt n 0) (records s)) n (inr (omega arith))
 
 restep-agrees : (n : ℕ) → 1 ≤ n → (s : Areas) (b : Book) → Inv3 n s b → accepted (callRestep s .answer) ≡ true → (l : Granted) → Agrees n (s .work) l → Agrees n (callRestep s .after .work) l
 unfolding pageStored reopeningOver
@@ -154,9 +161,9 @@ restep-agrees n some s b v r l a =
     let p = at (s .work) reopeningPageAt in
     let g = step-entered n some s b k i r .1 in
     by-bool (ltb p n)
-    (λ e. let d : callRestep s .after ≡ pageStored s p = g ∙ rw e refl in rw d (clear-kept n (s .work) _ l (i .clear) (λ j m. getD-set-other (s .work) 1 j _ 0 (λ z. omega arith) ∙ i .clear j m) a))
-    (λ e. let d : callRestep s .after ≡ reopeningOver s = g ∙ rw e refl in
-    rw d (clear-kept n (s .work) _ l (i .clear) (λ j m. getD-set-other (set (s .work) 0 2) 1 j 0 0 (λ z. omega arith) ∙ getD-set-other (s .work) 0 j 2 0 (λ z. omega arith) ∙ i .clear j m) a))
+    (λ e. let d : callRestep s .after ≡ pageStored s p = g ∙ rw e refl in rw d (kept-locks n (s .work) _ l (locks-kept (beside-set (s .work) reopeningPageAt (p + 1)) n (inl (omega arith))) a))
+    (λ e. let d : callRestep s .after ≡ reopeningOver s n = g ∙ rw e refl in
+    rw d (kept-locks n (s .work) _ l (locks-kept (beside-set _ reopeningPageAt 0) n (inl (omega arith)) ∙ locks-kept (beside-set (emptied s n .work) reopeningAt finished) n (inl (omega arith)) ∙ emptied-locks n s) a))
 
 -- where the store is not open nobody has a page
 abbrev pub Closed : Book → Granted → Type 0
@@ -170,10 +177,10 @@ module _ (n : ℕ) (some : 1 ≤ n) (s : Areas) (b : Book) (v : Inv3 n s b) (l :
   abbrev Leaves : Granted → Areas → Type 0
   Leaves k x = Agrees n (x .work) k
 
-  accepted-agrees : (c : Call) → accepted (perform s c .answer) ≡ true → Agrees n (perform s c .after .work) (granting l c)
-  unfolding perform begun committed aborted created wordSet flushed
+  pub accepted-agrees : (c : Call) → accepted (perform s c .answer) ≡ true → Agrees n (perform s c .after .work) (granting l c)
+  unfolding perform begun committed aborted created wordSet flushed markSet backTo
   accepted-agrees (begin t) a = through true s _ _ _ n (Leaves l) (begin-outcome s t) a (here (begin t) refl a .size)
-      (λ h k. let e = begin-locks (s .work) n t some (h .sized .tables .1) (begin-facts s t k .txn) in agrees-same n (s .work) _ l (ap (λ (k : Locks). k .rd) e) (ap (λ (k : Locks). k .wr) e) g)
+      (λ h k. let e = begin-locks (s .work) n t some (h .sized .tables .1) (begin-facts s n t k .txn) in agrees-same n (s .work) _ l (ap (λ (k : Locks). k .rd) e) (ap (λ (k : Locks). k .wr) e) g)
   accepted-agrees (commit t) a = through true s _ _ _ n (Leaves (fallen l t)) (commit-outcome s t) a (here (commit t) refl a .size) (λ h k. end-agrees n (s .work) l g (h .sized .tables .1) t)
   accepted-agrees (abort t) a = through true s _ _ _ n (Leaves (fallen l t)) (abort-outcome s t) a (here (abort t) refl a .size) (λ h k. end-agrees n (s .work) l g (h .sized .tables .1) t)
   accepted-agrees (lockRead t p) a = through true s _ _ _ n (Leaves (granting l (lockRead t p))) (lock-read-outcome s t p) a (here (lockRead t p) refl a .size)
@@ -190,7 +197,7 @@ module _ (n : ℕ) (some : 1 ≤ n) (s : Areas) (b : Book) (v : Inv3 n s b) (l :
       (λ h k. kept-locks n (s .work) _ l (flush-locks (s .work) n t p (flush-facts s n t p image k .page)) g)
   accepted-agrees force a = through true s _ _ _ n (Leaves l) (force-outcome s) a (here force refl a .size) (λ h k. g)
   accepted-agrees (store p) a = through true s _ _ _ n (Leaves l) (store-outcome s p) a (here (store p) refl a .size) (λ h k. g)
-  accepted-agrees empty a = through true s _ _ _ n (Leaves l) (empty-outcome s) a (here empty refl a .size) (λ h k. g)
+  accepted-agrees empty a = through true s _ _ _ n (Leaves l) (empty-outcome s) a (here empty refl a .size) (λ h k. kept-locks n (s .work) _ l (emptied-locks n s) g)
   accepted-agrees pass a = through true s _ _ _ n (Leaves l) (pass-outcome s) a (here pass refl a .size) (λ h k. kept-locks n (s .work) _ l (start-locks n (s .work) (h .sized .tables .1) some) g)
   accepted-agrees step a = let i = here step refl a in
       let k = step-outcome s .ran a in
@@ -200,6 +207,12 @@ module _ (n : ℕ) (some : 1 ≤ n) (s : Areas) (b : Book) (v : Inv3 n s b) (l :
       step-agrees n some s b i (rw e at p) (step-facts s (k .passed) .one-runs) l g (callStep s) (step-way s n (callStep s) a d)
   accepted-agrees reopen a = rw (ap (λ (x : Out). x .after .work) (reopen-ran s a .gives)) (clear-agrees n _ (reopen-clear s))
   accepted-agrees restep a = restep-agrees n some s b v a l g
+  accepted-agrees (mark t m) a = through true s _ _ _ n (Leaves l) (mark-outcome s t m) a (here (mark t m) refl a .size)
+      (λ h k. let f = mark-facts s t m k in
+      kept-locks n (s .work) _ l (locks-kept (mark-beside (s .work) n t m _ (f .txn) (f .mark) (let e = h .sized .work-len in omega arith)) n (inr (omega arith))) g)
+  accepted-agrees (back t m) a = let i = here (back t m) refl a in through true s _ _ _ n (Leaves l) (back-outcome s t m) a (i .size)
+      (λ h k. let f = back-facts s n t m k in
+      kept-locks n (s .work) _ l (locks-kept (dropped-beside _ n t _ markCount (f .txn) (omega arith)) n (inr (omega arith)) ∙ gone n some s b i h t m f .locks) g)
   accepted-agrees (look q) a = rw (look-keeps s q) g
 
   -- only a reopening and its steps change the stage of the book
@@ -221,6 +234,8 @@ module _ (n : ℕ) (some : 1 ≤ n) (s : Areas) (b : Book) (v : Inv3 n s b) (l :
   accepted-closed f step a r shut = absurd (shut (here step refl a .stage))
   accepted-closed f reopen a r shut = λ u p. refl
   accepted-closed f restep a r shut = f (λ e. storing-opened (sym (as-storing n s b v a .1 .stage) ∙ e))
+  accepted-closed f (mark t m) a r shut = absurd (shut (here (mark t m) refl a .stage))
+  accepted-closed f (back t m) a r shut = absurd (shut (open-back n some s b (here (back t m) refl a) t m a .stage))
   accepted-closed f (look q) a r shut = absurd (shut (here (look q) refl a .stage))
 
 -- the invariant: the masks are the ledger's, and where the store is not open nobody has a page

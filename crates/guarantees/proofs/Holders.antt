@@ -18,7 +18,7 @@ use Rattle.areas.specs.Answers.{unless}
 use Rattle.areas.specs.Areas.{Areas, done, checked, withWork}
 use Rattle.areas.specs.Layout.{readersAt, writersAt}
 use Rattle.areas.specs.Tables.{at, isTxn, isActive, canRead}
-use Rattle.areas.specs.Entry.{pages, wellFormed, isReady}
+use Rattle.areas.specs.Entry.{pages, records, wellFormed, isReady}
 use Rattle.calls.specs.Locks.{noOther, holderOf, readLocked, writeLocked}
 use Rattle.calls.specs.Calls.{perform, lockRead, lockWrite}
 use Rattle.acceptance.specs.Entered.{open-formed}
@@ -73,7 +73,7 @@ module _ (n : ℕ) (s : Areas) (b : Book) (i : OpenInv n s b) (z : Fine n s b) (
   active-bit : (t : ℕ) → (b .running t ≡ 0 → ⊥) → isActive (s .work) t ≡ true
   active-bit t r = sym (act-is s n (machine n s b) (machine-shows n s b) t (active-in t r)) ∙ i .runs t r
 
-  open-word : Working (s .work) n
+  open-word : Working (s .work) n (records s)
   open-word = rw (i .size) at (open-formed true s (formed n s b z true refl) (i .word) .ranged .working)
 
   -- the tests of a lock, for n pages

@@ -1,26 +1,25 @@
 -- No call is refused with 14, no end with 11, and no call with 1 but for its own buffers. n is the number of pages. Assumes nothing.
-use Prim.Native.Nat.{ℕ, _+_, _*_, _≤_}
+use Prim.Native.Nat.{ℕ, _+_, _*_, _-_, _≤_}
 use native.Mathlib.Omega.{arith}
 use mathlib.Core.Path.{_≡_, refl, sym, ap, _∙_}
 use mathlib.Core.Bool.{Bool, true, false, _&&_}
 use mathlib.Core.List.{List, [], _∷_}
 use lib.ListN.{length}
+use lib.Seq.{length-take-le}
 use lib.Dec.{eqb, leb}
 use borrow.Author.Tests.{le-leb, eq-eqb, eqb-true, eqb-false, ltb-true}
 use Rattle.words.specs.Tests.{if, all, by-bool, clash, and-split, all-intro, all-at}
-use Rattle.words.specs.Bits.{bit}
 use Rattle.pages.specs.Geometry.{pageWords, slotWords, objectCount, root, maxPages}
 use Rattle.pages.specs.Objects.{occupied}
 use Rattle.pages.specs.Soundness.{areaSound, mapSound, refsSound, pageSound, freeZero}
-use Rattle.records.specs.Changes.{changesLeft}
-use Rattle.records.specs.Order.{openIn}
 use Rattle.records.specs.Recovery.{recoverable}
 use Rattle.areas.specs.declared.Refusal.the-variants.{Malformed, Unsound}
 use Rattle.areas.specs.declared.Check.{Check}
 use Rattle.areas.specs.declared.Check.the-variants.{Accept, Refuse}
 use Rattle.areas.specs.Answers.{Test, accepted, need, verdict, spares, answerOf, checkNumber, need-holds, fails-later, fails-last, spared}
 use Rattle.areas.specs.Areas.{Areas, Out, receivedCount, stableCount, done, checked}
-use Rattle.areas.specs.Tables.{isTxn, isActive, isMarking}
+use Rattle.areas.specs.Layout.{workWords, markedAt}
+use Rattle.areas.specs.Tables.{at, isTxn, isActive, isMarking}
 use Rattle.areas.specs.Ranges.{fit, lengthsFit}
 use Rattle.areas.specs.Entry.{pages, records, reopening, wellFormed, isReady, called, called-checked, called-closed}
 use Rattle.calls.specs.Locks.{lockReadTests, callLockRead, lockWriteTests, callLockWrite}
@@ -31,9 +30,11 @@ use Rattle.calls.specs.Stability.{forceTests, callForce, storeTests, callStore,
 use Rattle.calls.specs.Transactions.{beginTests, callBegin, commitTests, callCommit, changesOf, abortTests, callAbort}
 use Rattle.calls.specs.Looks.{callLook}
 use Rattle.calls.specs.Calls.{Call, perform}
-use Rattle.calls.specs.Calls.Call.{begin, commit, abort, lockRead, lockWrite, read, create, setWord, flush, force, store, empty, pass, step, reopen, restep, look}
+use Rattle.calls.specs.Calls.Call.{begin, commit, abort, lockRead, lockWrite, read, create, setWord, flush, force, store, empty, pass, step, reopen, restep, mark, back, look}
+use Rattle.calls.specs.Marks.{isMark, markTests, callMark, sinceMark, backTests, callBack}
 use Rattle.acceptance.specs.Lengths.{Sized}
 use Rattle.acceptance.specs.Pass.{scanning, turning, sweepMapOf, sweeping, stepped}
+use Rattle.book.specs.Lines.{left}
 use Rattle.book.specs.Books.{Book, storing, committedLines, committedPages, stopped}
 use Rattle.book.specs.Demand.{Event, Point, after, start}
 use Rattle.book_laws.specs.Seen.{committedOf}
@@ -41,14 +42,14 @@ use Rattle.demand.proofs.State.{machine, Waiting, Inv3}
 use Rattle.demand.proofs.Change.{machine-shows}
 use Rattle.demand.proofs.Stopping.{stops}
 use Rattle.machine_calls.proofs.Facts.{act-is}
-use Rattle.recovery_proof.proofs.Changes.{changes-left}
+use Rattle.demand.proofs.Abort.{words-count}
 use Rattle.demand.proofs.Reopen.{recovered-committed}
 use Rattle.guarantees.specs.Disks.{fromDisk, Disk}
 use Rattle.guarantees.specs.Points.{AtEvery, last, then, Always}
 use Rattle.guarantees.specs.Refusals.{Reopenable, NeverUnsound, Endable, RoomToEnd, ownFits, WellFormed, NeverMalformed}
 use Rattle.guarantees.proofs.Fine.{Fine}
 use Rattle.guarantees.proofs.Sound.{firm-stop}
-use Rattle.guarantees.proofs.Reserve.{share, share-held}
+use Rattle.guarantees.proofs.Reserve.{share-runs, share-held}
 use Rattle.guarantees.proofs.Always.{as-open, Sure, keep-sure, start-sure}
 use Rattle.guarantees.proofs.Disks.{disk-some, disk-inv, disk-fine}
 use Rattle.records.specs.Records.{recordWords, txnCount, maxRecords}
@@ -83,7 +84,7 @@ fits n s z =
       eq-eqb (length (s .log)) (recordWords * records s) (z .log-len),
       eq-eqb (length (s .counts)) 2 (z .counts-len),
     )
-    (eq-eqb (length (s .work)) (6 + 67 * pages s) (z .work-len ∙ ap (λ (m : ℕ). 6 + 67 * m) (sym c)))
+    (eq-eqb (length (s .work)) (workWords (pages s) (records s)) (z .work-len ∙ ap (λ (m : ℕ). workWords m (records s)) (sym c)))
 
 -- refusal 14
 free-all : (n : ℕ) (a : List ℕ) → areaSound a n ≡ true → all (freeZero a) n ≡ true
@@ -142,7 +143,7 @@ step-mild : (s : Areas) (n : ℕ) → answerOf (stepped s n .answer) ≡ 1 → �
 unfolding marked swept sweepTests spares
 step-mild s n = if-not 1 (isMarking (s .work)) (marked s n) (swept s n)
     (if-not 1 (leb (lowestGrey (s .work) n) (objectCount n)) (scanning s n) (turning s n) (λ z. omega arith) (λ z. omega arith))
-    (checked-not 1 (verdict (sweepTests s (sweepMapOf s n))) s (sweeping s n) (spared 1 (sweepTests s (sweepMapOf s n)) (λ z. omega arith) refl) (λ z. omega arith))
+    (checked-not 1 (verdict (sweepTests s n (sweepMapOf s n))) s (sweeping s n) (spared 1 (sweepTests s n (sweepMapOf s n)) (λ z. omega arith) refl) (λ z. omega arith))
 
 module _ (n : ℕ) (s : Areas) (b : Book) (f : Fine n s b) where
   -- one that needs the reopening finished, has no buffer of its own, and is done
@@ -150,10 +151,10 @@ module _ (n : ℕ) (s : Areas) (b : Book) (f : Fine n s b) where
   plain tests v a c = mild n s b f true true refl tests _ c (λ m z. omega arith)
 
   well-formed : (c : Call) → ownFits c ≡ true → answerOf (perform s c .answer) ≡ 1 → ⊥
-  unfolding spares perform callBegin callCommit callAbort callLockRead callLockWrite callRead callCreate callSet callFlush callForce callStore callEmpty callPass callStep callRestep callReopen callLook beginTests commitTests abortTests lockReadTests lockWriteTests readTests createTests setTests flushTests forceTests storeTests emptyTests passTests stepTests restepTests reopenTests
-  well-formed (begin t) o = plain (λ m. beginTests s t) _ _ (λ m. refl)
+  unfolding spares perform callBegin callCommit callAbort callLockRead callLockWrite callRead callCreate callSet callFlush callForce callStore callEmpty callPass callStep callRestep callReopen callMark callBack callLook beginTests commitTests abortTests lockReadTests lockWriteTests readTests createTests setTests flushTests forceTests storeTests emptyTests passTests stepTests restepTests reopenTests markTests backTests
+  well-formed (begin t) o = plain (λ m. beginTests s m t) _ _ (λ m. refl)
   well-formed (commit t) o = plain (λ m. commitTests s m t) _ _ (λ m. refl)
-  well-formed (abort t) o = plain (λ m. abortTests s t) _ _ (λ m. refl)
+  well-formed (abort t) o = plain (λ m. abortTests s m t) _ _ (λ m. refl)
   well-formed (lockRead t p) o = plain (λ m. lockReadTests s m t p) _ _ (λ m. refl)
   well-formed (lockWrite t p) o = plain (λ m. lockWriteTests s m t p) _ _ (λ m. refl)
   well-formed (read t x buffer) o = mild n s b f true (eqb (length buffer) slotWords) o (λ m. readTests s m t x) _ (λ m. refl) (λ m z. omega arith)
@@ -166,6 +167,8 @@ module _ (n : ℕ) (s : Areas) (b : Book) (f : Fine n s b) where
   well-formed pass o = plain (λ m. passTests s) _ _ (λ m. refl)
   well-formed step o = mild n s b f true true refl (λ m. stepTests s) (stepped s) (λ m. refl) (step-mild s)
   well-formed restep o = mild n s b f false true refl (λ m. restepTests s) _ (λ m. refl) (λ m z. omega arith)
+  well-formed (mark t m) o = plain (λ k. markTests s t m) _ _ (λ k. refl)
+  well-formed (back t m) o = plain (λ k. backTests s k t m) _ _ (λ k. refl)
   well-formed (look q) o = mild n s b f true (q .own) o (q .tests s) _ (q .spares-1 s) (λ m z. omega arith)
   well-formed reopen o = checked-not 1 (verdict (reopenTests s)) s (done 0 (reopened s))
       (λ h. spared 1 (need 14 Unsound (leb (stableCount s) (records s) && recoverable (pages s) (s .stored) (s .log) (stableCount s)) ∷ []) (λ z. omega arith) refl
@@ -176,15 +179,14 @@ never-malformed = always WellFormed (λ n some q u c o e. well-formed n (q .stor
 
 -- refusal 11: an active transaction's records are in reserve
 module _ (n : ℕ) (some : 1 ≤ n) (s : Areas) (b : Book) (i : Inv3 n s b) (f : Fine n s b) (t : ℕ) where
-  reserve : isTxn t ≡ true → isActive (s .work) t ≡ true → reopening s ≡ 2 → receivedCount s + (length (changesOf s t) + 1) ≤ records s
+  reserve : isTxn t ≡ true → isActive (s .work) t ≡ true → reopening s ≡ 2 → receivedCount s + (length (changesOf s (pages s) t) + 1) ≤ records s
   reserve x a e =
       let o = as-open n s b i e in
       let l = ltb-true t txnCount x in
-      let g = s .log in let c = receivedCount s in
-      let open-t : bit (openIn g c) t ≡ true = o .log .open-ones t l ∙ act-is s n (machine n s b) (machine-shows n s b) t l ∙ a in
-      let ec : length (changesOf s t) ≡ length (changesLeft [] g c t) = ap length (changes-left g t (s .work) c open-t ∙ sym (changes-left g t [] c open-t)) in
-      let sh : share g c t ≡ 1 + length (changesLeft [] g c t) = rw open-t refl in
-      let h = share-held g c t l in
+      let run = o .active t (act-is s n (machine n s b) (machine-shows n s b) t l ∙ a) in
+      let p : length (changesOf s (pages s) t) ≡ left (b .running t) (b .lines) = rw (o .size) (words-count n s b o t l run) in
+      let q = share-runs b t run in
+      let h = share-held b t l in
       let r = f .room e in
       omega arith
 
@@ -198,9 +200,18 @@ module _ (n : ℕ) (some : 1 ≤ n) (s : Areas) (b : Book) (i : Inv3 n s b) (f :
 
   abort-room : answerOf (callAbort s t .answer) ≡ 11 → ⊥
   unfolding callAbort abortTests
-  abort-room = called-not 11 true true s (λ m. abortTests s t) _ (formed n s b f true refl) (λ z. omega arith)
+  abort-room = called-not 11 true true s (λ m. abortTests s m t) _ (formed n s b f true refl) (λ z. omega arith)
       (λ o e. let x = fails-later 11 _ _ refl e in let a = fails-later 11 _ _ refl (x .1) in
-      clash (le-leb (receivedCount s + (length (changesOf s t) + 1)) (records s) (reserve (x .0) (a .0) (eqb-true _ _ o))) (fails-last 11 _ (λ z. omega arith) (a .1)))
+      clash (le-leb (receivedCount s + (length (changesOf s (pages s) t) + 1)) (records s) (reserve (x .0) (a .0) (eqb-true _ _ o))) (fails-last 11 _ (λ z. omega arith) (a .1)))
+      (λ z. omega arith)
+
+  back-room : (m : ℕ) → answerOf (callBack s t m .answer) ≡ 11 → ⊥
+  unfolding callBack backTests
+  back-room m = called-not 11 true true s (λ k. backTests s k t m) _ (formed n s b f true refl) (λ z. omega arith)
+      (λ o e. let x = fails-later 11 _ _ refl e in let a = fails-later 11 _ _ refl (x .1) in let u = fails-later 11 _ _ refl (a .1) in
+      let r = reserve (and-split (isTxn t) (isMark m) (x .0) .0) (a .0) (eqb-true _ _ o) in
+      let d = length-take-le (length (changesOf s (pages s) t) - at (s .work) (markedAt (pages s) t m)) (changesOf s (pages s) t) (omega arith) in
+      clash (le-leb (receivedCount s + length (sinceMark s (pages s) t m)) (records s) (omega arith)) (fails-last 11 _ (λ z. omega arith) (u .1)))
       (λ z. omega arith)
 
 pub room-to-end : RoomToEnd
@@ -208,4 +219,5 @@ unfolding perform
 room-to-end = always Endable (λ n some q u. record {
   commits = λ t e. commit-room n some (q .store) (q .book) (u .inv) (u .fine) t (ap answerOf e);
   aborts = λ t e. abort-room n some (q .store) (q .book) (u .inv) (u .fine) t (ap answerOf e);
+  backs = λ t m e. back-room n some (q .store) (q .book) (u .inv) (u .fine) t m (ap answerOf e);
 })

@@ -1,33 +1,33 @@
--- The records that open transactions hold in reserve, by the log alone, and that every call keeps room for them. Assumes nothing.
-use Prim.Native.Nat.{ℕ, zero, suc, _+_, _*_, _≤_, _<_}
+-- The records that running transactions hold in reserve, by the book, and what each of its lines does to them. Assumes nothing.
+use Prim.Native.Nat.{ℕ, zero, suc, _+_, _≤_, _<_}
 use native.Mathlib.Omega.{arith}
 use native.Mathlib.Decide.{ℕ-discrete}
-use mathlib.Core.Path.{_≡_, refl, sym, _∙_}
-use mathlib.Core.Bool.{Bool, true, false, _||_}
-use mathlib.Core.List.{List, [], _∷_}
-use lib.ListN.{length, length-set}
-use lib.Seq.{getD-set-same}
+use mathlib.Core.Path.{_≡_, refl, sym, ap, _∙_}
+use mathlib.Core.Bool.{Bool, true, false, _&&_}
+use mathlib.Core.List.{List, _∷_}
+use lib.ListN.{length}
 use lib.Dec.{eqb}
-use borrow.Author.Tests.{ne-eqb, eq-eqb}
-use Rattle.words.specs.Tests.{if, sum, by-bool, and-false, or-false}
-use Rattle.words.specs.Bits.{bit, with-other, without-same, without-other}
+use borrow.Author.Tests.{eq-eqb, ne-eqb}
+use Rattle.words.specs.Tests.{if, sum, by-bool, and-false}
 use Rattle.records.specs.declared.Record.{Record}
-use Rattle.records.specs.Records.{recordAt, recorded, isBegin, isChange, isEnd, recordWords, txnCount}
-use Rattle.records.specs.Changes.{changesIn, changesLeft}
+use Rattle.records.specs.Records.{txnCount, beginOf}
 use Rattle.records.specs.Effects.{undoing}
-use Rattle.records.specs.Order.{openIn, openNext}
-use Rattle.record_laws.specs.RecordLaws.{begunIn, changesNext, open-append, begun-append, changes-append, recorded-length}
-use Rattle.areas.specs.Areas.{Areas, receivedCount, appended}
-use Rattle.calls.specs.Transactions.{rolledBack}
-use Rattle.recovery_proof.proofs.Rolling.{Undoable}
-use Rattle.book_laws.proofs.Ends.{undoing-kind}
+use Rattle.book.specs.Lines.{Line, line, isLeft, left, struckNewest}
+use Rattle.book.specs.Books.{Book}
+use Rattle.book.specs.Feeding.{put, begins, undoes}
+use Rattle.book_laws.specs.Striking.{undoingLine}
+use Rattle.book_laws.specs.Keeping.{Each, Runs, BookInv}
+use Rattle.book_laws.proofs.Undoing.{struck-not-left, strikes-newest, left-length, newest}
+use Rattle.book_laws.proofs.Committed.{filtered-none, filtered-strikes}
+use Rattle.book_laws.proofs.Ends.{left-facts}
+use Rattle.book_laws.proofs.Finishing.{undo-lines, undo-left}
 
--- what transaction u holds in reserve, in a log of c records, and all of them
-abbrev pub share : List ℕ → ℕ → ℕ → ℕ
-share g c u = if (bit (openIn g c) u) (1 + length (changesLeft [] g c u)) 0
+-- what transaction t holds in reserve: 1 record plus 1 for each of its creates and sets left; and all of them
+abbrev pub share : Book → ℕ → ℕ
+share b t = if (eqb (b .running t) 0) 0 (1 + left (b .running t) (b .lines))
 
-abbrev pub held : List ℕ → ℕ → ℕ
-held g c = sum (share g c) 16
+abbrev pub held : Book → ℕ
+held b = sum (share b) txnCount
 
 -- sums that differ at one place
 sum-but : (f h : ℕ → ℕ) (t a b : ℕ) → ((i : ℕ) → (i ≡ t → ⊥) → h i ≡ f i) → h t + a ≤ f t + b → (n : ℕ) → (t < n → sum h n + a ≤ sum f n + b) × (n ≤ t → sum h n ≡ sum f n)
@@ -44,107 +44,109 @@ unfolding sum
 sum-part f zero t l = absurd (omega arith)
 sum-part f (suc n) t l = elim (ℕ-discrete t n) [ yes e ↦ rw e (omega arith) | no e ↦ (let h = sum-part f n t (omega arith) in omega arith) ]
 
-pub share-held : (g : List ℕ) (c t : ℕ) → t < txnCount → share g c t ≤ held g c
-share-held g c t l = sum-part (share g c) 16 t l
+pub share-held : (b : Book) (t : ℕ) → t < txnCount → share b t ≤ held b
+share-held b t l = sum-part (share b) txnCount t l
+
+pub share-runs : (b : Book) (t : ℕ) → Runs b t → share b t ≡ 1 + left (b .running t) (b .lines)
+share-runs b t r = rw (ne-eqb (b .running t) 0 r)
 
 -- the same for all but t
-pub record Others (t : ℕ) (g : List ℕ) (c : ℕ) (g′ : List ℕ) (c′ : ℕ) : Type 0 where
-  pub shares : (u : ℕ) → (u ≡ t → ⊥) → share g′ c′ u ≡ share g c u
+pub held-but : (b b′ : Book) (t a c : ℕ) → t < txnCount → ((u : ℕ) → (u ≡ t → ⊥) → share b′ u ≡ share b u) → share b′ t + a ≤ share b t + c → held b′ + a ≤ held b + c
+held-but b b′ t a c l o h = sum-but (share b) (share b′) t a c o h txnCount .0 l
 
-pub held-but : (t a b : ℕ) (g : List ℕ) (c : ℕ) (g′ : List ℕ) (c′ : ℕ) → t < txnCount → Others t g c g′ c′ → share g′ c′ t + a ≤ share g c t + b → held g′ c′ + a ≤ held g c + b
-held-but t a b g c g′ c′ l o h = sum-but (share g c) (share g′ c′) t a b (o .shares) h 16 .0 l
+-- the same lines and transactions
+pub held-same : (b b′ : Book) → b′ .lines ≡ b .lines → b′ .running ≡ b .running → held b′ ≡ held b
+held-same b b′ e d = rw (e, d) refl
 
--- one record more
-module _ (g : List ℕ) (c : ℕ) (r : Record) (long : recordWords * c + recordWords ≤ length g) where
-  abbrev g′ : List ℕ
-  g′ = recorded g c r
+-- nobody runs
+held-to : (b : Book) → ((t : ℕ) → b .running t ≡ 0) → (k : ℕ) → sum (share b) k ≡ 0
+unfolding sum
+held-to b h zero = refl
+held-to b h (suc k) = let e = held-to b h k in rw (h k) (omega arith)
 
-  left-after : (u : ℕ) → changesLeft [] g′ (c + 1) u ≡ if (begunIn g u c || isBegin r u) (changesNext u c r (changesIn g u c)) []
-  unfolding changesLeft
-  left-after u = rw (begun-append g c r long u, changes-append g c r long u) refl
+pub held-none : (b : Book) → ((t : ℕ) → b .running t ≡ 0) → held b ≡ 0
+held-none b h = held-to b h txnCount
 
-  open-after : openIn g′ (c + 1) ≡ openNext (openIn g c) r
-  open-after = open-append g c r long
+-- a line that is not left
+left-past : (i : ℕ) (l : Line) (ls : List Line) → isLeft i l ≡ false → left i (l ∷ ls) ≡ left i ls
+unfolding left
+left-past i l ls e = rw e (omega arith)
 
-  share-same : (u : ℕ) → isBegin r u ≡ false → isChange r u ≡ false → bit (openNext (openIn g c) r) u ≡ bit (openIn g c) u → share g′ (c + 1) u ≡ share g c u
-  unfolding changesLeft
-  share-same u p q e = rw (open-after, e, left-after u, p, q, or-false (begunIn g u c)) refl
+left-most : (i : ℕ) (l : Line) (ls : List Line) → left i (l ∷ ls) ≤ left i ls + 1
+unfolding left
+left-most i l ls = by-bool (isLeft i l) (λ e. rw e (omega arith)) (λ e. rw e (omega arith))
 
-  apart-txn : (t u : ℕ) → r .txn ≡ t → (u ≡ t → ⊥) → eqb (r .txn) u ≡ false
-  apart-txn t u e d = ne-eqb (r .txn) u (λ z. d (sym z ∙ e))
+no-left : (i : ℕ) (ls : List Line) → Each (λ l. isLeft i l ≡ false) ls → left i ls ≡ 0
+no-left i ls h = sym (left-length i ls) ∙ ap length (filtered-none (isLeft i) ls h)
 
-  open-other : (m t u : ℕ) → r .txn ≡ t → (u ≡ t → ⊥) → bit (openNext m r) u ≡ bit m u
-  open-other m t u e d = by-bool (eqb (r .kind) 1)
-      (λ k. rw k (with-other m (r .txn) u (λ z. d (z ∙ e))))
-      (λ k. by-bool (isEnd r) (λ j. rw (k, j) (without-other m (r .txn) u (λ z. d (z ∙ e)))) (λ j. rw (k, j) refl))
+module _ (b : Book) (inv : BookInv b) where
+  -- of a line that is no change of u
+  share-past : (u : ℕ) (b′ : Book) (l : Line) → b′ .lines ≡ l ∷ b .lines → b′ .running u ≡ b .running u → isLeft (b .running u) l ≡ false → share b′ u ≡ share b u
+  share-past u b′ l e d h = rw (e, d, left-past (b .running u) l (b .lines) h)
 
-  -- of a record of t, and of a sweep
-  pub others-more : (t : ℕ) → r .txn ≡ t → Others t g c g′ (c + 1)
-  others-more t e = record {
-    shares = λ u d. share-same u (rw (apart-txn t u e d) (and-false (eqb (r .kind) 1))) (rw (apart-txn t u e d) (and-false (eqb (r .kind) 2 || eqb (r .kind) 3))) (open-other (openIn g c) t u e d);
-  }
-
-  pub held-sweep : r .kind ≡ 7 → held g′ (c + 1) ≤ held g c
-  held-sweep k = let s : (u : ℕ) → share g′ (c + 1) u ≡ share g c u = λ u. share-same u (rw k refl) (rw k refl) (rw k refl) in
-      let z = held-but 0 0 0 g c g′ (c + 1) (omega arith) (record { shares = λ u d. s u }) (let e = s 0 in omega arith) in omega arith
-
-  pub held-begin : (t : ℕ) → t < txnCount → isBegin r t ≡ true → r .txn ≡ t → held g′ (c + 1) ≤ held g c + 1
-  held-begin t l k e = let z = held-but t 0 1 g c g′ (c + 1) l (others-more t e) (let d = either (bit (openIn g′ (c + 1)) t) (changesLeft [] g′ (c + 1) t) none in omega arith) in omega arith
+  -- a sweep's
+  pub held-sweep : (b′ : Book) (l : Line) → b′ .lines ≡ l ∷ b .lines → b′ .running ≡ b .running → ((i : ℕ) → isLeft i l ≡ false) → held b′ ≤ held b
+  held-sweep b′ l e d h = let z = held-but b b′ 0 0 0 (omega arith) (λ u n. same u) (let k = same 0 in omega arith) in omega arith
     where
-      none : changesLeft [] g′ (c + 1) t ≡ []
-      none = left-after t ∙ by-bool (begunIn g t c) (λ b. rw (b, k) refl) (λ b. rw (b, k) refl)
+      same : (u : ℕ) → share b′ u ≡ share b u
+      same u = share-past u b′ l e (ap (λ (f : ℕ → ℕ). f u) d) (h (b .running u))
 
-      either : (b : Bool) (xs : List ℕ) → xs ≡ [] → if b (1 + length xs) 0 ≤ 1
-      either true xs d = rw d (omega arith)
-      either false xs d = omega arith
-
-  pub held-change : (t : ℕ) → t < txnCount → (eqb (r .kind) 2 || eqb (r .kind) 3) ≡ true → eqb (r .kind) 1 ≡ false → isEnd r ≡ false → r .txn ≡ t → held g′ (c + 1) ≤ held g c + 1
-  unfolding changesLeft
-  held-change t l k nb ne e = let z = held-but t 0 1 g c g′ (c + 1) l (others-more t e) (let d = own in omega arith) in omega arith
+  pub held-begin : (t : ℕ) → t < txnCount → held (begins b t) ≤ held b + 1
+  held-begin t small = let z = held-but b (begins b t) t 0 1 small others own in omega arith
     where
-      grown : (b : Bool) (xs : List ℕ) → length (if b (c ∷ xs) []) ≤ length (if b xs []) + 1
-      grown true xs = omega arith
-      grown false xs = omega arith
+      none : left (b .begun + 1) (b .lines) ≡ 0
+      none = no-left (b .begun + 1) (b .lines) (λ l j. rw (ne-eqb (l .owner) (b .begun + 1) (λ z. let k = inv .lines l j .owned in omega arith)))
 
-      own : share g′ (c + 1) t ≤ share g c t + 1
-      own = rw (open-after, left-after t, k, nb, ne, e, eq-eqb t t refl, or-false (begunIn g t c))
-          (let d = grown (begunIn g t c) (changesIn g t c) in by-bool (bit (openIn g c) t) (λ b. rw b (omega arith)) (λ b. rw b (omega arith)))
+      first : isLeft (b .begun + 1) (line (beginOf t) (b .begun + 1)) ≡ false
+      first = and-false (eqb (b .begun + 1) (b .begun + 1) && true)
 
-  -- an end
-  pub ended-share : (t : ℕ) → eqb (r .kind) 1 ≡ false → isEnd r ≡ true → r .txn ≡ t → share g′ (c + 1) t ≡ 0
-  ended-share t nb e x = rw (open-after, nb, e, x, without-same (openIn g c) t) refl
+      others : (u : ℕ) → (u ≡ t → ⊥) → share (begins b t) u ≡ share b u
+      others u n = share-past u (begins b t) (line (beginOf t) (b .begun + 1)) refl (rw (ne-eqb u t n)) (and-false (eqb (b .begun + 1) (b .running u) && true))
 
--- the areas after a record
-pub record More (t k : ℕ) (s s′ : Areas) : Type 0 where
-  pub counts : length (s′ .counts) ≡ length (s .counts)
-  pub log : length (s′ .log) ≡ length (s .log)
-  pub count : receivedCount s′ ≡ receivedCount s + k
-  pub others : Others t (s .log) (receivedCount s) (s′ .log) (receivedCount s′)
+      own : share (begins b t) t + 0 ≤ share b t + 1
+      own = rw (eq-eqb t t refl, left-past (b .begun + 1) (line (beginOf t) (b .begun + 1)) (b .lines) first, none) (most (eqb (b .begun + 1) 0))
+        where
+          most : (c : Bool) → if c 0 (1 + 0) + 0 ≤ share b t + 1
+          most true = omega arith
+          most false = omega arith
 
-others-trans : {t : ℕ} {g : List ℕ} {c : ℕ} {g′ : List ℕ} {c′ : ℕ} {g″ : List ℕ} {c″ : ℕ} → Others t g c g′ c′ → Others t g′ c′ g″ c″ → Others t g c g″ c″
-others-trans o p = record { shares = λ u d. p .shares u d ∙ o .shares u d }
+  module _ (t : ℕ) (run : Runs b t) (small : t < txnCount) where
+    foreign : (u : ℕ) → (u ≡ t → ⊥) → (l : Line) → l .owner ≡ b .running t → isLeft (b .running u) l ≡ false
+    foreign u n l e = by-bool (isLeft (b .running u) l)
+        (λ d. absurd (n (sym (inv .distinct t u run (sym e ∙ left-facts (b .running u) l d .owner)))))
+        (λ d. d)
 
-pub one-more : (t : ℕ) (s : Areas) (r : Record) → r .txn ≡ t → 0 < length (s .counts) → recordWords * receivedCount s + recordWords ≤ length (s .log) → More t 1 s (appended s r)
-unfolding appended
-one-more t s r e l h = let n = getD-set-same (s .counts) 0 (receivedCount s + 1) 0 l in record {
-  counts = length-set (s .counts) 0 (receivedCount s + 1);
-  log = recorded-length (s .log) (receivedCount s) r;
-  count = n;
-  others = rw n (others-more (s .log) (receivedCount s) r h t e);
-}
+    -- a record of t's
+    pub held-adds : (b′ : Book) (r : Record) → b′ .lines ≡ line r (b .running t) ∷ b .lines → b′ .running ≡ b .running → held b′ ≤ held b + 1
+    held-adds b′ r e d = let z = held-but b b′ t 0 1 small (λ u n. share-past u b′ (line r (b .running t)) e (ap (λ (f : ℕ → ℕ). f u) d) (foreign u n (line r (b .running t)) refl)) own in omega arith
+      where
+        own : share b′ t + 0 ≤ share b t + 1
+        own = rw (e, d, ne-eqb (b .running t) 0 run) (let k = left-most (b .running t) (line r (b .running t)) (b .lines) in omega arith)
 
--- an abort's undoing records
-pub rolled-more : (n : ℕ) (g : List ℕ) (t : ℕ) (is : List ℕ) (s : Areas) → Undoable n g t is → 0 < length (s .counts) → recordWords * (receivedCount s + length is) ≤ length (s .log)
-    → More t (length is) s (rolledBack g is s)
-unfolding rolledBack Undoable
-rolled-more n g t [] s u l h = record { counts = refl; log = refl; count = omega arith; others = record { shares = λ v d. refl } }
-rolled-more n g t (i ∷ is) s u l h =
-    let r = undoing (recordAt g i) in
-    let m = one-more t s r (undoing-kind (recordAt g i) .txn ∙ u .1) l (omega arith) in
-    let k = rolled-more n g t is (appended s r) (u .3) (rw (m .counts) l) (let e = m .log in let d = m .count in omega arith) in
-    record {
-      counts = k .counts ∙ m .counts;
-      log = k .log ∙ m .log;
-      count = let a = k .count in let b = m .count in omega arith;
-      others = others-trans (m .others) (k .others);
-    }
+    -- t ends
+    pub held-end : (b′ : Book) (r : Record) → b′ .lines ≡ line r (b .running t) ∷ b .lines → b′ .running ≡ put (b .running) t 0 → held b′ + (1 + left (b .running t) (b .lines)) ≤ held b
+    held-end b′ r e d =
+        let k = share-runs b t run in
+        let none : share b′ t ≡ 0 = rw (d, eq-eqb t t refl) refl in
+        let z = held-but b b′ t (share b t) 0 small
+        (λ u n. share-past u b′ (line r (b .running t)) e (ap (λ (f : ℕ → ℕ). f u) d ∙ rw (ne-eqb u t n) refl) (foreign u n (line r (b .running t)) refl)) (omega arith) in omega arith
+
+    -- a change of t's is undone
+    pub held-undo : (k : ℕ) → left (b .running t) (b .lines) ≡ suc k → held (undoes b t) + 1 ≤ held b
+    held-undo k more = let z = held-but b (undoes b t) t 1 0 small others own in omega arith
+      where
+        j : ℕ
+        j = b .running t
+
+        l : Line
+        l = newest j (b .lines) k more .0
+
+        others : (u : ℕ) → (u ≡ t → ⊥) → share (undoes b t) u ≡ share b u
+        others u n = let i = b .running u in ap (λ (c : ℕ). if (eqb i 0) 0 (1 + c))
+            (ap (left i) (undo-lines b inv t run k more) ∙ left-past i (undoingLine j l) (struckNewest j (b .lines)) (struck-not-left i (line (undoing (l .entry)) j))
+            ∙ sym (left-length i (struckNewest j (b .lines)))
+            ∙ ap length (filtered-strikes (isLeft i) j (λ m e. (foreign u n m (left-facts j m e .owner), struck-not-left i m)) (strikes-newest j (b .lines)))
+            ∙ left-length i (b .lines))
+
+        own : share (undoes b t) t + 1 ≤ share b t + 0
+        own = rw (ne-eqb (b .running t) 0 run) (let e = undo-left b inv t run k more in omega arith)

@@ -16,17 +16,17 @@ use Rattle.page_laws.specs.ViewLaws.{length-copied}
 use Rattle.records.specs.declared.Record.{Record}
 use Rattle.records.specs.Records.{recordAt, recorded, abortedOf, recordWords}
 use Rattle.records.specs.Effects.{undoing}
-use Rattle.areas.specs.declared.Check.{Check}
 use Rattle.areas.specs.Answers.{accepted, Test}
-use Rattle.areas.specs.Areas.{Areas, Out, receivedCount, stableCount, appended}
+use Rattle.areas.specs.Areas.{Areas, Out, receivedCount, stableCount, withWork, appended}
 use Rattle.areas.specs.Layout.{reopeningPageAt}
 use Rattle.areas.specs.Tables.{at}
 use Rattle.calls.specs.Calls.{Call, perform}
-use Rattle.calls.specs.Calls.Call.{begin, commit, abort, lockRead, lockWrite, read, create, setWord, flush, force, store, empty, pass, step, reopen, restep, look}
+use Rattle.calls.specs.Calls.Call.{begin, commit, abort, lockRead, lockWrite, read, create, setWord, flush, force, store, empty, pass, step, reopen, restep, mark, back, look}
 use Rattle.calls.specs.Objects.{created, wordSet, flushed}
 use Rattle.calls.specs.Pass.{sweptPage}
 use Rattle.calls.specs.Reopening.{reopened, pageStored, reopeningOver}
 use Rattle.calls.specs.Transactions.{begun, committed, rolledBack, aborted, changesOf}
+use Rattle.calls.specs.Marks.{markSet, sinceMark, wentBack, backTo}
 use Rattle.acceptance.specs.Calls.{refused-keeps}
 use Rattle.acceptance.specs.Entered.{Open, opened, entered}
 use Rattle.acceptance.specs.Lengths.{Sized}
@@ -37,8 +37,10 @@ use Rattle.acceptance.specs.Objects.{read-outcome, create-outcome, set-outcome,
 use Rattle.acceptance.specs.Stability.{force-outcome, store-outcome, store-facts, empty-outcome}
 use Rattle.acceptance.specs.Pass.{pass-outcome, step-outcome, step-way, StepWay, scans, turns, sweeps, sweepMapOf}
 use Rattle.acceptance.specs.Reopening.{reopen-ran, restep-outcome, restepped}
-use Rattle.guarantees.specs.Stable.{PageStored, page, count, AtMostOne, OneStableStore}
+use Rattle.acceptance.specs.Marks.{mark-outcome, back-outcome}
 use Rattle.acceptance.specs.Looks.{look-outcome}
+use Rattle.demand.proofs.GoneBack.{rolled-went}
+use Rattle.guarantees.specs.Stable.{PageStored, page, count, AtMostOne, OneStableStore}
 
 -- a call that leaves stored pages and log
 same-stable : (s s′ : Areas) → s′ .stored ≡ s .stored → s′ .log ≡ s .log → AtMostOne s s′
@@ -113,8 +115,17 @@ went own s tests o k h a f = let r = h .ran a in rw (r .gives) (f (r .n) (opened
 abort-behind : (n : ℕ) (s : Areas) (t : ℕ) → Open s n → AtMostOne s (aborted s n t)
 unfolding aborted appended
 abort-behind n s t o =
-    let b = rolled-behind (s .log) (changesOf s t) (stableCount s) s (o .sized .counts-len) (o .ranged .stable-le) in
-    record { store = count (b .stored); kept = λ i l. appended-before (rolledBack (s .log) (changesOf s t) s) (abortedOf t) i (stableCount s) (b .count) l ∙ b .log i l }
+    let b = rolled-behind (s .log) (changesOf s n t) (stableCount s) s (o .sized .counts-len) (o .ranged .stable-le) in
+    record { store = count (b .stored); kept = λ i l. appended-before (rolledBack (s .log) (changesOf s n t) s) (abortedOf t) i (stableCount s) (b .count) l ∙ b .log i l }
+
+-- going back appends what rolling back those changes does
+back-behind : (n : ℕ) (s : Areas) (t m : ℕ) → Open s n → AtMostOne s (backTo s n t m)
+unfolding backTo
+back-behind n s t m o =
+    let is = sinceMark s n t m in
+    let b = rolled-behind (s .log) is (stableCount s) s (o .sized .counts-len) (o .ranged .stable-le) in
+    let e : rolledBack (s .log) is s ≡ withWork (wentBack (s .log) is s n t) (s .work) = rolled-went (s .log) is n t s (s .work) in
+    record { store = count (sym (ap (λ (a : Areas). a .stored) e) ∙ b .stored); kept = λ i l. sym (ap (λ (a : Areas). at (a .log) i) e) ∙ b .log i l }
 
 step-stable : (n : ℕ) (s : Areas) (o : Out) → Open s n → StepWay s n o → AtMostOne s (o .after)
 unfolding sweptPage appended
@@ -131,7 +142,7 @@ restep-stable n s z = by-bool (ltb (at (s .work) reopeningPageAt) n)
     (λ e. rw e (same-stable s _ refl refl))
 
 accepted-stable : (s : Areas) (c : Call) → accepted (perform s c .answer) ≡ true → AtMostOne s (perform s c .after)
-unfolding perform begun created wordSet flushed committed appended reopened
+unfolding perform begun created wordSet flushed committed appended reopened markSet
 accepted-stable s (begin t) a = went true s _ _ _ (begin-outcome s t) a (λ n o. one-behind n s _ _ o refl refl)
 accepted-stable s (commit t) a = went true s _ _ _ (commit-outcome s t) a (λ n o. one-behind n s _ _ o refl refl)
 accepted-stable s (abort t) a = went true s _ _ _ (abort-outcome s t) a (λ n o. abort-behind n s t o)
@@ -149,6 +160,8 @@ accepted-stable s empty a = went true s _ _ _ (empty-outcome s) a (λ n o. same-
 accepted-stable s pass a = went true s _ _ _ (pass-outcome s) a (λ n o. same-stable s _ refl refl)
 accepted-stable s step a = let r = step-outcome s .ran a in step-stable (r .n) s (perform s step) (opened true s (r .n) (r .ready)) (step-way s (r .n) (perform s step) a (r .gives))
 accepted-stable s reopen a = let r = reopen-ran s a in rw (r .gives) (same-stable s _ refl refl)
+accepted-stable s (mark t m) a = went true s _ _ _ (mark-outcome s t m) a (λ n o. same-stable s _ refl refl)
+accepted-stable s (back t m) a = went true s _ _ _ (back-outcome s t m) a (λ n o. back-behind n s t m o)
 accepted-stable s (look q) a = went (q .own) s _ _ _ (look-outcome s q) a (λ n o. same-stable s _ refl refl)
 accepted-stable s restep a = let r = restep-outcome s .ran a in rw (r .gives) (restep-stable (r .n) s (entered false true s (r .n) (r .ready) .sized))
 

@@ -7,7 +7,7 @@ use Rattle.areas.specs.Answers.{accepted, need-holds, all-passed}
 use Rattle.areas.specs.Areas.{Areas, Out}
 use Rattle.areas.specs.Layout.{finished, running}
 use Rattle.areas.specs.Entry.{reopening, called-passed}
-use Rattle.calls.specs.Calls.{Call, restep, reopens, perform}
+use Rattle.calls.specs.Calls.{perform}
 use Rattle.calls.specs.Reopening.{restepTests, callRestep}
 use Rattle.acceptance.specs.Calls.{refused-keeps, format-keeps, buffer-keeps, chain-keeps}
 use Rattle.book.specs.Books as Books

@@ -16,7 +16,7 @@ use Rattle.areas.specs.Layout.{readersAt, writersAt}
 use Rattle.areas.specs.Tables.{isTxn, isActive, canRead}
 use Rattle.areas.specs.Entry.{pages, called}
 use Rattle.calls.specs.Locks.{noOther, readLocked, writeLocked}
-use Rattle.calls.specs.Calls.{Call, perform, begin, commit, abort, lockRead, lockWrite, read, create, setWord, flush, force, store, empty, pass, step, reopen, restep, look}
+use Rattle.calls.specs.Calls.{Call, perform, begin, commit, abort, lockRead, lockWrite, read, create, setWord, flush, force, store, empty, pass, step, reopen, restep, mark, back, look}
 use Rattle.book.specs.Demand.{Point}
 use Rattle.guarantees.specs.Ledgers.{Ledger, AlwaysKept}
 
@@ -88,7 +88,7 @@ entered tab t p u q = tab u q || (eqb u t && eqb q p)
 abbrev pub fallen : Granted → ℕ → Granted
 fallen l t = record { reads = λ u q. not (eqb u t) && l .reads u q; writes = λ u q. not (eqb u t) && l .writes u q }
 
--- after an accepted call; reopening: 'no transaction, lock, .. remains'
+-- after an accepted call; reopening: 'no transaction, lock, .. remains'; going back: '.. locks are kept'
 abbrev pub granting : Granted → Call → Granted
 granting l (begin t) = l
 granting l (commit t) = fallen l t
@@ -106,11 +106,13 @@ granting l pass = l
 granting l step = l
 granting l reopen = nothing
 granting l restep = l
+granting l (mark t m) = l
+granting l (back t m) = l
 granting l (look q) = l
 
--- a cut leaves no lock
+-- a cut leaves no lock; the pages do not matter
 abbrev pub grants : Ledger Granted
-grants = record { first = nothing; enters = granting; drops = λ l. nothing }
+grants = record { first = nothing; enters = λ l c r. granting l c; drops = λ l. nothing }
 
 -- u was let lock the page, to read it or to write it
 abbrev pub holds : Granted → ℕ → ℕ → Bool

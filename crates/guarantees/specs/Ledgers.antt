@@ -1,5 +1,5 @@
--- A ledger that is kept from the list alone: it sees the calls, whether each was accepted, and the cuts, and no word of the store.
--- Assumes nothing.
+-- A ledger that is kept from the list: it sees the calls, whether each was accepted, the cuts, and the received pages that a call finds,
+-- and no other word of the store. Assumes nothing.
 use Prim.Native.Nat.{ℕ, _≤_}
 use mathlib.Core.List.{List, [], _∷_}
 use Rattle.words.specs.Tests.{if}
@@ -11,15 +11,15 @@ use Rattle.calls.specs.Calls.{Call}
 use Rattle.book.specs.Demand.{Event, call, power, Point, accepts, after, start}
 use Rattle.guarantees.specs.Disks.{fromDisk, Disk}
 
--- what it starts with, and what an accepted call and a cut make of it
+-- what it starts with, and what an accepted call, with the received pages that it finds, and a cut make of it
 pub record Ledger (L : Type 0) : Type 0 where
   pub first : L
-  pub enters : L → Call → L
+  pub enters : L → Call → List ℕ → L
   pub drops : L → L
 
 -- 'Refused calls change nothing.'
 unfoldable pub kept : {L : Type 0} → Ledger L → Point → L → Event → L
-kept g q l (call c) = let k = g .enters l c in if (accepts q c) k l
+kept g q l (call c) = let k = g .enters l c (q .store .received) in if (accepts q c) k l
 kept g q l power = g .drops l
 
 -- at every point of the list, the last too, with the ledger as it then is

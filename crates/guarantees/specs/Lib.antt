@@ -7,5 +7,7 @@ pub mod Refusals
 pub mod Stages
 pub mod Held
 pub mod Chains
+pub mod Cuts
 pub mod Ledgers
 pub mod Holders
+pub mod Restoring

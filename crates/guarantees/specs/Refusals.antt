@@ -7,7 +7,7 @@ use lib.Dec.{eqb}
 use Rattle.pages.specs.Geometry.{pageWords, slotWords}
 use Rattle.areas.specs.declared.Refusal.the-variants.{Malformed, LogFull}
 use Rattle.areas.specs.declared.Answer.the-variants.{Refused}
-use Rattle.calls.specs.Calls.{Call, perform, begin, commit, abort, lockRead, lockWrite, read, create, setWord, flush, force, store, empty, pass, step, reopen, restep, look}
+use Rattle.calls.specs.Calls.{Call, perform, begin, commit, abort, lockRead, lockWrite, read, create, setWord, flush, force, store, empty, pass, step, reopen, restep, mark, back, look}
 use Rattle.book.specs.Demand.{Point, accepts}
 use Rattle.guarantees.specs.Points.{Always}
 
@@ -23,8 +23,10 @@ NeverUnsound = Always Reopenable
 pub record Endable (q : Point) : Type 0 where
   pub commits : (t : ℕ) → perform (q .store) (commit t) .answer ≡ Refused LogFull → ⊥
   pub aborts : (t : ℕ) → perform (q .store) (abort t) .answer ≡ Refused LogFull → ⊥
+  -- document 02, L3, of going back: 'the undoing uses the reserve'
+  pub backs : (t m : ℕ) → perform (q .store) (back t m) .answer ≡ Refused LogFull → ⊥
 
--- at every point of every list, commit and abort have room
+-- at every point of every list, commit, abort and going back have room
 abbrev pub RoomToEnd : Type 0
 RoomToEnd = Always Endable
 
@@ -46,6 +48,8 @@ ownFits pass = true
 ownFits step = true
 ownFits reopen = true
 ownFits restep = true
+ownFits (mark t m) = true
+ownFits (back t m) = true
 ownFits (look q) = q .own
 
 -- 1, 'a length differs, or a working word is out of range': never but for the call's own buffers

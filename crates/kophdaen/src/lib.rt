@@ -8,6 +8,7 @@ ghost use Rattle.calls.specs.Objects.{callRead, callCreate, callSet, callFlush,
 ghost use Rattle.calls.specs.Stability.{callForce, callStore, callEmpty};
 ghost use Rattle.calls.specs.Pass.{callPass, callStep};
 ghost use Rattle.calls.specs.Reopening.{callReopen, callRestep};
+ghost use Rattle.calls.specs.Marks.{callMark, callBack};
 ghost use Rattle.calls.specs.Chains.{callChain, chainAfter};
 ghost use Rattle.codes.specs.Codes.{coded};
 use codes::code;
@@ -248,7 +249,7 @@ pub extern "C" fn kophdaen_empty_log(
     received: &[u32],
     log: &[u32],
     counts: &mut [u32],
-    work: &[u32],
+    work: &mut [u32],
 ) -> u64
     ensures { λ r. ⌜ r ≡ coded (callEmpty (areas (now (stored .entry)) (now (copies .entry)) (now (received .entry)) (now (log .entry)) (now (counts .entry)) (now (work .entry))) .answer) ⌝ }
     ensures { λ _. ⌜ areas (now (stored .exit)) (now (copies .exit)) (now (received .exit)) (now (log .exit)) (now (counts .exit)) (now (work .exit)) ≡ callEmpty (areas (now (stored .entry)) (now (copies .entry)) (now (received .entry)) (now (log .entry)) (now (counts .entry)) (now (work .entry))) .after ⌝ }
@@ -322,6 +323,44 @@ pub extern "C" fn kophdaen_reopen_step(
     ensures { λ _. ⌜ areas (now (stored .exit)) (now (copies .exit)) (now (received .exit)) (now (log .exit)) (now (counts .exit)) (now (work .exit)) ≡ callRestep (areas (now (stored .entry)) (now (copies .entry)) (now (received .entry)) (now (log .entry)) (now (counts .entry)) (now (work .entry))) .after ⌝ }
 {
     let a = reopening_calls::restep(stored, copies, received, log, counts, work);
+    code(a)
+}
+
+// Sets mark m of transaction t, or sets it again.
+#[no_mangle]
+pub extern "C" fn kophdaen_mark(
+    stored: &[u32],
+    copies: &[u32],
+    received: &[u32],
+    log: &[u32],
+    counts: &[u32],
+    work: &mut [u32],
+    t: u32,
+    m: u32,
+) -> u64
+    ensures { λ r. ⌜ r ≡ coded (callMark (areas (now (stored .entry)) (now (copies .entry)) (now (received .entry)) (now (log .entry)) (now (counts .entry)) (now (work .entry))) t m .answer) ⌝ }
+    ensures { λ _. ⌜ areas (now (stored .exit)) (now (copies .exit)) (now (received .exit)) (now (log .exit)) (now (counts .exit)) (now (work .exit)) ≡ callMark (areas (now (stored .entry)) (now (copies .entry)) (now (received .entry)) (now (log .entry)) (now (counts .entry)) (now (work .entry))) t m .after ⌝ }
+{
+    let a = mark_calls::mark(stored, copies, received, log, counts, work, t, m);
+    code(a)
+}
+
+// Takes transaction t back to its mark m.
+#[no_mangle]
+pub extern "C" fn kophdaen_back(
+    stored: &[u32],
+    copies: &[u32],
+    received: &mut [u32],
+    log: &mut [u32],
+    counts: &mut [u32],
+    work: &mut [u32],
+    t: u32,
+    m: u32,
+) -> u64
+    ensures { λ r. ⌜ r ≡ coded (callBack (areas (now (stored .entry)) (now (copies .entry)) (now (received .entry)) (now (log .entry)) (now (counts .entry)) (now (work .entry))) t m .answer) ⌝ }
+    ensures { λ _. ⌜ areas (now (stored .exit)) (now (copies .exit)) (now (received .exit)) (now (log .exit)) (now (counts .exit)) (now (work .exit)) ≡ callBack (areas (now (stored .entry)) (now (copies .entry)) (now (received .entry)) (now (log .entry)) (now (counts .entry)) (now (work .entry))) t m .after ⌝ }
+{
+    let a = mark_calls::back(stored, copies, received, log, counts, work, t, m);
     code(a)
 }
 

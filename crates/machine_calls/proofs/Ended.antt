@@ -1,5 +1,5 @@
 -- The working tables once a transaction has ended, as the collector machine's: n is the number of pages. Assumes nothing.
-use Prim.Native.Nat.{ℕ, _+_, _*_, _<_, _≤_}
+use Prim.Native.Nat.{ℕ, _+_, _<_, _≤_}
 use native.Mathlib.Omega.{arith}
 use mathlib.Core.Path.{_≡_, ap, _∙_, fun-ext}
 use mathlib.Core.Bool.{Bool, true, not}
@@ -10,13 +10,14 @@ use lib.Seq.{getD-set-same}
 use lib.Dec.{eqb}
 use Rattle.words.specs.Bits.{withoutBit, bit-without}
 use Rattle.pages.specs.Geometry.{isObject, objectCount}
-use Rattle.areas.specs.Layout.{phaseAt, activeAt, readersAt, writersAt, unflushedAt, knownAt, prunedAt, createdAt, colourAt, tableWords}
+use Rattle.areas.specs.Layout.{phaseAt, activeAt, readersAt, writersAt, unflushedAt, knownAt, prunedAt, createdAt, colourAt, tableWords, markCount, markedAt, orderAt}
 use Rattle.areas.specs.Tables.{at, lose, passRuns}
-use Rattle.calls.specs.Transactions.{leaves, endedEntry, endedEntries, endedTables}
+use Rattle.words.specs.Spans.{fill, length-fill, fill-inside, fill-outside}
+use Rattle.calls.specs.Transactions.{leaves, endedEntry, endedEntries, withoutMarks, endedTables}
 use Rattle.collector.specs.Bits.{_and_, _or_}
 use Rattle.collector.specs.Calls.{unlocked, without}
 use Rattle.machine_calls.specs.Tables.{objectBit, flagBit, locksOf, tablesOf, passOf}
-use Rattle.machine_calls.proofs.Frames.{Beside, beside-self, beside-set, beside-over, wider, later, locks-ext, tables-ext, pass-kept}
+use Rattle.machine_calls.proofs.Frames.{Beside, beside-self, beside-set, beside-over, beside-fill, wider, later, locks-ext, tables-ext, locks-kept, tables-kept, pass-kept}
 use Rattle.machine_calls.proofs.Masks.{page-drop, object-drop, over-page, over-object, ended-bit, flag-ended, active-drop}
 use Rattle.machine_calls.proofs.Phases.{runs-phase}
 use Rattle.records.specs.Records.{txnCount}
@@ -81,12 +82,34 @@ module _ (w : List ℕ) (n t : ℕ) where
   from1 : Beside (readersAt n 0) (colourAt n 1) w1 w7
   from1 = later (wider (beside-over _ w1 (readersAt n 0) n) (omega arith) (omega arith)) (wider from2 (omega arith) (omega arith))
 
-  pub ended-beside : Beside activeAt (colourAt n 1) w (endedTables w n t)
-  unfolding endedTables
-  ended-beside = later (wider six (omega arith) (omega arith)) (wider from6 (omega arith) (omega arith))
+  seven : Beside activeAt (colourAt n 1) w w7
+  seven = later (wider six (omega arith) (omega arith)) (wider from6 (omega arith) (omega arith))
+
+  -- the marks' words stand behind all of these
+  marks : Beside (tableWords n) (orderAt n t markCount) w7 (endedTables w n t)
+  unfolding endedTables withoutMarks
+  marks = later (wider (beside-fill (λ m. 0) w7 (markedAt n t 0) markCount) (omega arith) (omega arith)) (wider (beside-fill (λ m. 0) _ (orderAt n t 0) markCount) (omega arith) (omega arith))
+
+  pub ended-beside : Beside activeAt (orderAt n t markCount) w (endedTables w n t)
+  ended-beside = later (wider seven (omega arith) (omega arith)) (wider marks (omega arith) (omega arith))
 
   pub ended-pass : passOf (endedTables w n t) n ≡ passOf w n
-  ended-pass = pass-kept ended-beside n (inr (omega arith)) (inl (omega arith))
+  ended-pass = pass-kept marks n (inr (omega arith)) (inr (omega arith)) ∙ pass-kept seven n (inr (omega arith)) (inl (omega arith))
+
+  -- no mark of t is set, and others' stay
+  pub ended-unset : (m : ℕ) → m < markCount → orderAt n t markCount ≤ length w → at (endedTables w n t) (orderAt n t m) ≡ 0
+  unfolding endedTables withoutMarks
+  ended-unset m l len = ap (at (endedTables w n t)) place ∙ fill-inside (λ m. 0) (fill (λ m. 0) w7 (markedAt n t 0) markCount) (orderAt n t 0) markCount m
+      (let a = seven .same-length in let b = length-fill (λ m. 0) w7 (markedAt n t 0) markCount in omega arith) l
+    where
+      place : orderAt n t m ≡ orderAt n t 0 + m
+      place = omega arith
+
+  pub ended-others : (j : ℕ) → tableWords n ≤ j → ((m : ℕ) → m < markCount → (j ≡ markedAt n t m → ⊥) × (j ≡ orderAt n t m → ⊥)) → at (endedTables w n t) j ≡ at w j
+  unfolding endedTables withoutMarks
+  ended-others j l h = fill-outside (λ m. 0) (fill (λ m. 0) w7 (markedAt n t 0) markCount) (orderAt n t 0) markCount j 0 (λ m k z. h m k .1 (omega arith))
+      ∙ fill-outside (λ m. 0) w7 (markedAt n t 0) markCount j 0 (λ m k z. h m k .0 (omega arith))
+      ∙ seven .above j (omega arith)
 
   -- the pass runs or not as before
   runs5 : passRuns w5 ≡ passRuns w
@@ -100,8 +123,7 @@ module _ (w : List ℕ) (n t : ℕ) where
     inactive = from1 .below activeAt (omega arith) ∙ getD-set-same w activeAt (withoutBit (at w activeAt) t) 0 (omega arith)
 
     pub ended-locks : locksOf (endedTables w n t) n ≡ unlocked (locksOf w n) t
-    unfolding endedTables
-    ended-locks = locks-ext _ _ (active-drop w w7 activeAt t inactive)
+    ended-locks = locks-kept marks n (inr (omega arith)) ∙ locks-ext (locksOf w7 n) _ (active-drop w w7 activeAt t inactive)
         (page-drop w n _ t w7 (over-page (λ m. withoutBit m t) n one (omega arith) from2 (omega arith) (omega arith)))
         (page-drop w n _ t w7 (over-page (λ m. withoutBit m t) n two (omega arith) from3 (omega arith) (omega arith)))
 
@@ -114,8 +136,7 @@ module _ (w : List ℕ) (n t : ℕ) where
         ∙ ap (λ (b : Bool). endedEntry b t (at w (createdAt n x))) runs6
 
     pub ended-tables : t < txnCount → tablesOf (endedTables w n t) n ≡ without (tablesOf w n) (passOf w n .phase) t
-    unfolding endedTables
-    ended-tables small = tables-ext _ _
+    ended-tables small = tables-kept marks n (inr (omega arith)) ∙ tables-ext (tablesOf w7 n) _
         (object-drop w n _ t w7 (λ m. withoutBit m t) (λ m u l. bit-without m t u) (over-object (λ m. withoutBit m t) n four (omega arith) from5 (omega arith) (omega arith)))
         (object-drop w n _ t w7 (endedEntry (passRuns w) t) (ended-bit (passRuns w) t) pruned-words)
         (object-drop w n _ t w7 (endedEntry (passRuns w) t) (ended-bit (passRuns w) t) created-words)

@@ -62,7 +62,7 @@ module _ (a : Areas) (n : ℕ) (s : St) (e : Shows (a .work) n s) where
   unfolding Objects.pageOf
   own-is t o h f w = wr-is t (pageOf o) ∙ page-bit (a .work) n (writersAt n) t (pageOf o) h (f .page) ∙ w
 
-  pub begin-facts : (t m : ℕ) → Accepted.BeginFacts a t → s .tags .now ≤ m → Facts.BeginFacts s t m
+  pub begin-facts : (t m : ℕ) → Accepted.BeginFacts a n t → s .tags .now ≤ m → Facts.BeginFacts s t m
   unfolding Objects.txns
   begin-facts t m f l = record { small = f .txn; inactive = act-is t (f .txn) ∙ f .inactive; line = l }
 

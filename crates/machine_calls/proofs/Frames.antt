@@ -1,8 +1,8 @@
 -- What a change of some of the working tables' words leaves: every table whose words lie elsewhere. n is the number of pages.
 -- Assumes nothing.
-use Prim.Native.Nat.{ℕ, suc, _+_, _*_, _-_, _<_, _≤_}
+use Prim.Native.Nat.{ℕ, suc, _+_, _-_, _<_, _≤_}
 use native.Mathlib.Omega.{arith}
-use mathlib.Core.Path.{_≡_, refl, ap, _∙_, fun-ext}
+use mathlib.Core.Path.{_≡_, refl, sym, ap, _∙_, fun-ext}
 use mathlib.Core.Bool.{Bool, true, false}
 use mathlib.Core.List.{List}
 use mathlib.Core.Logic.{_⊎_, inl, inr}
@@ -78,6 +78,10 @@ later e f = record {
   below = λ i l. f .below i l ∙ e .below i l;
   above = λ i l. f .above i l ∙ e .above i l;
 }
+
+-- the change taken back
+pub beside-back : {a b : ℕ} {w v : List ℕ} → Beside a b w v → Beside a b v w
+beside-back e = record { same-length = sym (e .same-length); below = λ i l. sym (e .below i l); above = λ i l. sym (e .above i l) }
 
 -- the words from c up to d are none of those from a up to b
 abbrev pub Apart : ℕ → ℕ → ℕ → ℕ → Type 0

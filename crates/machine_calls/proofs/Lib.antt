@@ -11,5 +11,6 @@ pub mod Learned
 pub mod Created
 pub mod Written
 pub mod Flushed
+pub mod TakenBack
 pub mod Shows
 pub mod Facts

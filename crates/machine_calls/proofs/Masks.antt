@@ -1,6 +1,6 @@
 -- Tables of masks with one bit more, one less, or without a transaction's bits, as the collector machine's tables. n is the number of
 -- pages, c the table's first word. Assumes nothing.
-use Prim.Native.Nat.{ℕ, _+_, _*_, _-_, _<_, _≤_}
+use Prim.Native.Nat.{ℕ, _+_, _-_, _<_, _≤_}
 use native.Mathlib.Omega.{arith}
 use mathlib.Core.Path.{_≡_, refl, sym, ap, _∙_, fun-ext}
 use mathlib.Core.Bool.{Bool, true, false, not, _&&_, _||_}
@@ -103,6 +103,10 @@ module _ (w : List ℕ) (n c t : ℕ) where
     pub object-gain : t < txnCount → objectBit (gain w (byObject c x) t) n (byObject c) ≡ add (objectBit w n (byObject c)) t x
     unfolding objectBit
     object-gain s = bits-gain (isObject n) (byObject c) w t x (omega arith) (λ y. object-apart n c x y low) s (is-object n x low top)
+
+    pub object-lose : objectBit (lose w (byObject c x) t) n (byObject c) ≡ remove (objectBit w n (byObject c)) t x
+    unfolding objectBit
+    object-lose = bits-lose (isObject n) (byObject c) w t x (omega arith) (λ y. object-apart n c x y low)
 
   pub page-drop : (v : List ℕ) → ((p : ℕ) → p < n → at v (c + p) ≡ withoutBit (at w (c + p)) t) → pageBit v n (byPage c) ≡ drop (pageBit w n (byPage c)) t
   unfolding pageBit

@@ -1,8 +1,8 @@
 -- A state of the collector machine that shows the working tables, and each call: the machine's next state shows the next tables. n is the
 -- number of pages. Assumes nothing.
-use Prim.Native.Nat.{ℕ, _+_, _*_, _<_, _≤_}
+use Prim.Native.Nat.{ℕ, _<_, _≤_}
 use mathlib.Core.Path.{_≡_, sym, _∙_}
-use mathlib.Core.Bool.{true}
+use mathlib.Core.Bool.{true, not}
 use mathlib.Core.List.{List}
 use lib.ListN.{length}
 use Rattle.pages.specs.Soundness.{areaSound}
@@ -11,8 +11,10 @@ use Rattle.areas.specs.Tables.{gain, lose}
 use Rattle.calls.specs.Transactions.{knowsRoot, endedTables}
 use Rattle.calls.specs.Locks.{readLocked, writeLocked}
 use Rattle.calls.specs.Objects.{learned}
+use Rattle.calls.specs.Marks.{takenBack}
 use Rattle.collector.specs.State.{St}
 use Rattle.collector.specs.Calls as Calls
+use Rattle.collector.specs.Undo.{Item, popped}
 use Rattle.machine_view.specs.View.{view}
 use Rattle.machine_calls.specs.Tables.{locksOf, tablesOf, passOf}
 use Rattle.machine_calls.proofs.Begun.{begin-locks, begin-tables, begin-pass}
@@ -21,9 +23,11 @@ use Rattle.machine_calls.proofs.Locking.{lock-read-locks, lock-read-tab
 use Rattle.machine_calls.proofs.Learned.{read-locks, read-tables, read-pass}
 use Rattle.machine_calls.proofs.Created.{makes, create-locks, create-tables, create-pass}
 use Rattle.machine_calls.proofs.Written.{writes, set-locks, set-tables, set-pass}
+use Rattle.machine_calls.proofs.TakenBack.{back-locks, back-tables, back-pass}
 use Rattle.machine_calls.proofs.Flushed.{flush-locks, flush-tables, flush-pass}
 use Rattle.pages.specs.Geometry.{objectCount, slotWords}
-use Rattle.records.specs.Records.{txnCount}
+use Rattle.records.specs.declared.Record.{Record}
+use Rattle.records.specs.Records.{txnCount, isCreate}
 
 pub record Shows (w : List ℕ) (n : ℕ) (s : St) : Type 0 where
   pub count : s .count ≡ n
@@ -73,6 +77,16 @@ module _ (w : List ℕ) (n : ℕ) (len : tableWords n ≤ length w) (s : St) (e 
     locks = e .locks ∙ sym (flush-locks w n t p h);
     tables = rw (e .tables) (sym (flush-tables w n t p h len));
     pass = e .pass ∙ sym (flush-pass w n t p h);
+  }
+
+  -- the parts of a state where a change is taken back
+  pub back-shows : (t c : ℕ) (r : Record) → t < txnCount → 1 ≤ r .object → r .object ≤ objectCount n → (p : Item) → p .o ≡ r .object → p .was .occ ≡ not (isCreate r)
+      → (m : ℕ) → Shows (takenBack w n t c r) n (Calls.dated (popped s t p) m)
+  back-shows t c r small low top p o occ m = record {
+    count = e .count;
+    locks = e .locks ∙ sym (back-locks w n t c r low top);
+    tables = rw (e .tables, occ, o) (sym (back-tables w n t c r low top len small));
+    pass = e .pass ∙ sym (back-pass w n t c r low top);
   }
 
   module _ (t o : ℕ) (small : t < txnCount) (low : 1 ≤ o) (top : o ≤ objectCount n) where

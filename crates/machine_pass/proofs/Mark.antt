@@ -1,5 +1,5 @@
 -- A marking step: the scan of an object and the turn to sweeping, read as the machine's. n is the number of pages. Assumes nothing.
-use Prim.Native.Nat.{ℕ, zero, suc, _+_, _*_, _≤_, _<_}
+use Prim.Native.Nat.{ℕ, zero, suc, _+_, _≤_, _<_}
 use native.Mathlib.Omega.{arith}
 use mathlib.Core.Path.{_≡_, refl, sym, ap, _∙_}
 use mathlib.Core.Bool.{Bool, true, false, not, cond, _&&_}
@@ -8,7 +8,7 @@ use lib.ListN.{length, length-set}
 use lib.Seq.{getD-set-same, getD-set-other}
 use lib.Dec.{ltb, eqb}
 use borrow.Author.Tests.{ltb-true, eqb-true, eqb-false, eq-eqb, ne-eqb, le-leb, lt-ltb}
-use Rattle.words.specs.Tests.{if, by-bool}
+use Rattle.words.specs.Tests.{if, by-bool, and-split}
 use Rattle.pages.specs.Geometry.{isObject, isRef, isRefAt, objectCount, slotWords}
 use Rattle.pages.specs.Objects.{occupied, wordOf}
 use Rattle.areas.specs.Layout.{passPageAt, stepsAt, colourAt, tableWords, stepsTop, coloursFrom, activeAt}
@@ -42,6 +42,16 @@ marked-grey : (k : ℕ) → (k ≡ 0 → ⊥) → whiteToGrey (colourOf k) ≡ c
 marked-grey zero h = absurd (h refl)
 marked-grey (suc zero) h = refl
 marked-grey (suc (suc k)) h = refl
+
+-- a word that is no object's colour: one below them, or behind them
+abbrev pub NoColour : ℕ → ℕ → Type 0
+NoColour n i = (y : ℕ) → isObject n y ≡ true → i ≡ colourAt n y → ⊥
+
+pub below-colours : (n i : ℕ) → i < coloursFrom n → NoColour n i
+below-colours n i l y o z = let k = object-range n y o .0 in omega arith
+
+pub behind-colours : (n i : ℕ) → tableWords n ≤ i → NoColour n i
+behind-colours n i l y o z = let k = object-range n y o .0 in let m = object-range n y o .1 in omega arith
 
 colour-apart : (n x y : ℕ) → 1 ≤ x → 1 ≤ y → (x ≡ y → ⊥) → colourAt n x ≡ colourAt n y → ⊥
 colour-apart n x y hx hy d e = d (omega arith)
@@ -81,10 +91,10 @@ module _ (n : ℕ) (w : List ℕ) (len : tableWords n ≤ length w) where
   unfolding greyed
   length-greyed y = by-bool (mayMark w n y && isWhite w n y) (λ e. rw e (length-set w (colourAt n y) 1)) (λ e. rw e refl)
 
-  pub greyed-low : (y i : ℕ) → i < coloursFrom n → at (greyed w n y) i ≡ at w i
+  pub greyed-other : (y i : ℕ) → NoColour n i → at (greyed w n y) i ≡ at w i
   unfolding greyed
-  greyed-low y i l = by-bool (mayMark w n y && isWhite w n y)
-      (λ e. rw e (getD-set-other w (colourAt n y) i 1 0 (λ z. omega arith))) (λ e. rw e refl)
+  greyed-other y i l = by-bool (mayMark w n y && isWhite w n y)
+      (λ e. rw e (getD-set-other w (colourAt n y) i 1 0 (l y (and-split (mayMark w n y) (isWhite w n y) e .0)))) (λ e. rw e refl)
 
 -- references that name no object are nothing
 target-test : (n x y : ℕ) → y ≤ objectCount n → (isObject n y and eqb x y) ≡ (not (eqb x 0) and eqb y x)
@@ -124,12 +134,12 @@ module _ (n : ℕ) (copies : List ℕ) (o : ℕ) (refs : (f : ℕ) → f < 4 →
       (λ e. rw e (length-greyed n (targetsGreyed copies w n o k) (room-kept (tableWords n) (length-targets w len k) len) (wordOf copies o k) ∙ length-targets w len k))
       (λ e. rw e (length-targets w len k))
 
-  pub targets-low : (w : List ℕ) → tableWords n ≤ length w → (k i : ℕ) → i < coloursFrom n → at (targetsGreyed copies w n o k) i ≡ at w i
+  pub targets-other : (w : List ℕ) → tableWords n ≤ length w → (k i : ℕ) → NoColour n i → at (targetsGreyed copies w n o k) i ≡ at w i
   unfolding targetsGreyed
-  targets-low w len zero i l = refl
-  targets-low w len (suc k) i l = by-bool (isRef copies o k)
-      (λ e. rw e (greyed-low n (targetsGreyed copies w n o k) (room-kept (tableWords n) (length-targets w len k) len) (wordOf copies o k) i l ∙ targets-low w len k i l))
-      (λ e. rw e (targets-low w len k i l))
+  targets-other w len zero i l = refl
+  targets-other w len (suc k) i l = by-bool (isRef copies o k)
+      (λ e. rw e (greyed-other n (targetsGreyed copies w n o k) (room-kept (tableWords n) (length-targets w len k) len) (wordOf copies o k) i l ∙ targets-other w len k i l))
+      (λ e. rw e (targets-other w len k i l))
 
   pub targets-view : (w : List ℕ) → tableWords n ≤ length w → (k x : ℕ)
       → colourAtObject (targetsGreyed copies w n o k) n x ≡ M.greyed (hits copies o k x) (colourAtObject w n x)
@@ -171,9 +181,9 @@ module _ (n : ℕ) (copies w : List ℕ) (o : ℕ) (refs : (f : ℕ) → f < 4 �
   unfolding targets
   length-kept = by-bool (occupied copies o) (λ e. rw e (room-kept (tableWords n) (length-targets n copies o refs w len 8) len)) (λ e. rw e len)
 
-  low-kept : (i : ℕ) → i < coloursFrom n → at targets i ≡ at w i
+  other-kept : (i : ℕ) → NoColour n i → at targets i ≡ at w i
   unfolding targets
-  low-kept i l = by-bool (occupied copies o) (λ e. rw e (targets-low n copies o refs w len 8 i l)) (λ e. rw e refl)
+  other-kept i l = by-bool (occupied copies o) (λ e. rw e (targets-other n copies o refs w len 8 i l)) (λ e. rw e refl)
 
   colours : (x : ℕ) → colourAtObject targets n x ≡ M.greyed (points (view copies o) x) (colourAtObject w n x)
   unfolding targets
@@ -185,9 +195,9 @@ module _ (n : ℕ) (copies w : List ℕ) (o : ℕ) (refs : (f : ℕ) → f < 4 �
   unfolding scanned targets
   length-scanned = room-kept (tableWords n) (length-set targets (colourAt n o) 2) length-kept
 
-  pub scanned-low : (i : ℕ) → i < coloursFrom n → at (scanned copies w n o) i ≡ at w i
+  pub scanned-other : (i : ℕ) → NoColour n i → at (scanned copies w n o) i ≡ at w i
   unfolding scanned targets
-  scanned-low i l = getD-set-other targets (colourAt n o) i 2 0 (λ z. omega arith) ∙ low-kept i l
+  scanned-other i l = getD-set-other targets (colourAt n o) i 2 0 (l o ok) ∙ other-kept i l
 
   pub scanned-view : (x : ℕ) → colourAtObject (scanned copies w n o) n x ≡ cond (eqb x o) black (M.greyed (points (view copies o) x) (colourAtObject w n x))
   unfolding scanned targets
@@ -207,7 +217,7 @@ module _ (n : ℕ) (copies w : List ℕ) (o : ℕ) (refs : (f : ℕ) → f < 4 �
 
   scan-low : (i : ℕ) → activeAt ≤ i → i < coloursFrom n → at scan i ≡ at w i
   scan-low i l u = pass-other (scanned copies w n o) 1 (at w passPageAt) (stepsNext w n) long i (λ z. omega arith) (λ z. omega arith) (λ z. omega arith)
-      ∙ scanned-low n copies w o refs len ok i u
+      ∙ scanned-other n copies w o refs len ok i (below-colours n i u)
 
   pub scan-locks : locksOf scan n ≡ locksOf w n
   scan-locks = locks-kept scan w n (λ i l u. scan-low i l (omega arith))

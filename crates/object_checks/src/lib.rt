@@ -3,13 +3,13 @@ ghost use mathlib.Core.Path.{_≡_};
 ghost use mathlib.Core.Bool.{_&&_};
 ghost use mathlib.Core.List.{[]};
 ghost use Prim.Native.Nat.{_*_, _<_, _≤_};
-ghost use lib.ListN.{length};
+ghost use lib.ListN.{length, getD};
 ghost use lib.Dec.{ltb};
 ghost use Rattle.pages.specs.Geometry.{pageWords, maxPages, isObject};
 ghost use Rattle.records.specs.Records.{txnCount};
 ghost use Rattle.areas.specs.Answers.{verdict};
 ghost use Rattle.areas.specs.Areas.{areas};
-ghost use Rattle.areas.specs.Layout.{HasTables};
+ghost use Rattle.areas.specs.Layout.{HasTables, HasUndoing};
 ghost use Rattle.areas.specs.Tables.{isTxn};
 ghost use Rattle.calls.specs.Objects.{mayWrite, readTests, createTests, setTests, flushTests};
 ghost use Rattle.store_ops.specs.Logs.{Kept};
@@ -75,7 +75,7 @@ pub fn create_check(
     t: u32,
     o: u32,
 ) -> Check
-    requires { ⌜ (pageWords * n ≤ length (now received)) × HasTables (now work) n ⌝ }
+    requires { ⌜ (pageWords * n ≤ length (now received)) × HasUndoing (now work) n (getD (now counts) 0 0) ⌝ }
     requires { ⌜ Kept (now log) (now counts) ⌝ }
     ensures { λ r. ⌜ r ≡ verdict (createTests (areas [] [] (now (received .entry)) (now (log .entry)) (now (counts .entry)) (now (work .entry))) n t o) ⌝ }
 {
@@ -91,7 +91,7 @@ pub fn create_check(
     if change::occupied(received, o) {
         return Check::Refuse(Refusal::Occupied);
     }
-    if !store_ops::room_beyond(log, counts, work, store_ops::CHANGE_ROOM) {
+    if !store_ops::room_beyond(log, counts, work, n, store_ops::CHANGE_ROOM) {
         return Check::Refuse(Refusal::LogFull);
     }
     Check::Accept
@@ -109,7 +109,7 @@ pub fn set_check(
     f: u32,
     v: u32,
 ) -> Check
-    requires { ⌜ HasTables (now work) n ⌝ }
+    requires { ⌜ HasUndoing (now work) n (getD (now counts) 0 0) ⌝ }
     requires { ⌜ Kept (now log) (now counts) ⌝ }
     ensures { λ r. ⌜ r ≡ verdict (setTests (areas [] [] (now (received .entry)) (now (log .entry)) (now (counts .entry)) (now (work .entry))) n t o f v) ⌝ }
 {
@@ -125,7 +125,7 @@ pub fn set_check(
     if !(store_ops::knows(work, n, t, o) & may_write(received, work, n, t, o, f, v)) {
         return Check::Refuse(Refusal::Unknown);
     }
-    if !store_ops::room_beyond(log, counts, work, store_ops::CHANGE_ROOM) {
+    if !store_ops::room_beyond(log, counts, work, n, store_ops::CHANGE_ROOM) {
         return Check::Refuse(Refusal::LogFull);
     }
     Check::Accept

@@ -1,4 +1,5 @@
 // The objects of a page area: what is there, and their changes one object at a time.
+use super::areas;
 use bit_ops::bits;
 use page_rows::rows;
 ghost use mathlib.Core.Path.{_≡_};
@@ -38,10 +39,7 @@ fn clear_slot(a: &mut [u32], p: usize, s: usize)
     requires { ⌜ (s < slotCount) × (pageAt p + pageWords ≤ length (now a)) ⌝ }
     ensures { λ _. ⌜ now (a .exit) ≡ cleared (now (a .entry)) p s ⌝ }
 {
-    let b = pages::slot_at(p, s, 0);
-    for f in 0..pages::SLOT_WORDS {
-        a[b + f] = 0;
-    }
+    areas::clear_words(a, pages::slot_at(p, s, 0), pages::SLOT_WORDS);
 }
 
 // Slot s of page p becomes occupied, its words 0.

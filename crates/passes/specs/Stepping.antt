@@ -3,7 +3,7 @@ use Prim.Native.Nat.{ℕ, _*_, _<_, _≤_}
 use mathlib.Core.Path.{_≡_, sym, ap, _∙_}
 use mathlib.Core.Bool.{not}
 use mathlib.Core.List.{List, []}
-use lib.ListN.{length}
+use lib.ListN.{length, getD}
 use native.Mathlib.Omega.{arith}
 use borrow.Author.Tests.{eq-eqb, ne-eqb}
 use Rattle.words.specs.Tests.{if-t, if-f}
@@ -16,12 +16,12 @@ use Rattle.areas.specs.declared.Answer.the-variants.{Done}
 use Rattle.areas.specs.declared.Check.the-variants.{Accept, Refuse}
 use Rattle.areas.specs.Answers.{verdict, need-holds, need-fails, all-passed}
 use Rattle.areas.specs.Areas.{Areas, Out, areas, out}
-use Rattle.areas.specs.Layout.{HasTables, phaseAt, passPageAt}
+use Rattle.areas.specs.Layout.{HasTables, HasUndoing, phaseAt, passPageAt}
 use Rattle.areas.specs.Tables.{at}
 use Rattle.calls.specs.Pass.{passTests, stepTests, swept}
 use Rattle.acceptance.specs.Entered.{Open}
 use Rattle.acceptance.specs.Pass.{stepped}
-use Rattle.store_ops.specs.Logs.{Kept, open-kept}
+use Rattle.store_ops.specs.Logs.{Kept, open-kept, open-undoing}
 use Rattle.pass_record.specs.declared.Pass.{Pass}
 use Rattle.pass_record.specs.Step.{passOf, own-phase, own-page}
 use Rattle.marking.specs.Steps.{markValue, markWork, marked-as}
@@ -29,6 +29,7 @@ use Rattle.marking.specs.Steps.{markValue, markWork, marked-as}
 -- the copies c, received pages r, log g, counts k and working tables w
 pub record Steppable (c r g k w : List ℕ) (n : ℕ) : Type 0 where
   pub tables : HasTables w n
+  pub undoing : HasUndoing w n (getD k 0 0)
   pub page : at w passPageAt < n
   pub copies-in : pageAt n ≤ length c
   pub received-in : pageAt n ≤ length r
@@ -43,6 +44,7 @@ open-steppable s n o =
     let m = sound-facts (s .copies) n (o .ranged .copies-sound) .map (at (s .work) passPageAt) p in
     record {
       tables = z .tables;
+      undoing = open-undoing s n o;
       page = p;
       copies-in = omega arith;
       received-in = omega arith;

@@ -5,7 +5,7 @@ use mathlib.Core.Path.{_≡_, refl, sym, ap, _∙_}
 use mathlib.Core.Bool.{Bool, true, false, not, _&&_, _||_}
 use mathlib.Core.List.{List, [], _∷_}
 use mathlib.Core.Logic.{inl, inr}
-use lib.ListN.{length, getD, set, length-set}
+use lib.ListN.{length, getD, set, drop, length-set, length-drop}
 use lib.Seq.{getD-set-same, getD-set-other}
 use lib.Dec.{leb, ltb, eqb}
 use native.Mathlib.Decide.{ℕ-discrete}
@@ -17,10 +17,10 @@ use Rattle.words.specs.Bits.{bit}
 use Rattle.pages.specs.Geometry.{isObject, objectCount, slotWords, slotCount, mapTop}
 use Rattle.page_laws.specs.Places.{object-range}
 use Rattle.records.specs.declared.Record.{Record}
-use Rattle.records.specs.Records.{made, recordAt, recorded, isBegin, isChange, isSweep, recordWords, txnCount}
+use Rattle.records.specs.Records.{made, recordAt, recorded, isBegin, isChange, changesObject, isSweep, recordWords, txnCount}
 use Rattle.records.specs.Soundness.{txnSound, namesObject, objectSound, fieldSound, newSound, referenceSound, wordSound, recordSound, recordsSound}
 use Rattle.records.specs.Order.{openNext, openIn, inOrder, logSound}
-use Rattle.records.specs.Changes.{changesIn}
+use Rattle.records.specs.Changes.{changesIn, changesLeft}
 use Rattle.records.specs.Naming.{namesPage, pageNamed}
 use Rattle.records.specs.Effects.{effect}
 use Rattle.records.specs.Recovery.{redone}
@@ -299,20 +299,31 @@ records-sound-next n g i = all-next (λ j. recordSound n (recordAt g j)) i
 abbrev pub begunIn : List ℕ → ℕ → ℕ → Bool
 begunIn g t c = any (λ i. isBegin (recordAt g i) t) c
 
-abbrev pub changesNext : ℕ → ℕ → Record → List ℕ → List ℕ
-changesNext t i r before = if (isBegin r t) [] (if (isChange r t) (i ∷ before) before)
+-- b: going back appended record i, which is r
+abbrev pub changesNext : Bool → ℕ → ℕ → Record → List ℕ → List ℕ
+changesNext b t i r before = if (isBegin r t) [] (if (b && changesObject r t) (drop 1 before) (if (isChange r t) (i ∷ before) before))
 
 -- at most one for each record
-pub changes-le : (g : List ℕ) (t c : ℕ) → length (changesIn g t c) ≤ c
+pub changes-le : (u : ℕ → Bool) (g : List ℕ) (t c : ℕ) → length (changesIn u g t c) ≤ c
 unfolding changesIn
-changes-le g t zero = omega arith
-changes-le g t (suc i) = let r = recordAt g i in let h = changes-le g t i in by-bool (isBegin r t)
+changes-le u g t zero = omega arith
+changes-le u g t (suc i) =
+    let r = recordAt g i in
+    let l = changesIn u g t i in
+    let h = changes-le u g t i in
+    by-bool (isBegin r t)
     (λ e. rw e (omega arith))
-    (λ e. by-bool (isChange r t) (λ f. rw (e, f) (omega arith)) (λ f. rw (e, f) (omega arith)))
+    (λ e. by-bool (u i && changesObject r t)
+    (λ d. rw (e, d, length-drop 1 l) (omega arith))
+    (λ d. by-bool (isChange r t) (λ f. rw (e, d, f) (omega arith)) (λ f. rw (e, d, f) (omega arith))))
 
-pub changes-next : (g : List ℕ) (t i : ℕ) → changesNext t i (recordAt g i) (changesIn g t i) ≡ changesIn g t (i + 1)
+pub left-le : (u : ℕ → Bool) (g : List ℕ) (c t : ℕ) → length (changesLeft u g c t) ≤ c
+unfolding changesLeft
+left-le u g c t = by-bool (begunIn g t c) (λ e. rw e (changes-le u g t c)) (λ e. rw e (omega arith))
+
+pub changes-next : (u : ℕ → Bool) (g : List ℕ) (t i : ℕ) → changesNext (u i) t i (recordAt g i) (changesIn u g t i) ≡ changesIn u g t (i + 1)
 unfolding changesIn
-changes-next g t i = ap (changesIn g t) (sym (add-one i))
+changes-next u g t i = ap (changesIn u g t) (sym (add-one i))
 
 pub redone-next : (a g : List ℕ) (i : ℕ) → effect (redone a g i) (recordAt g i) ≡ redone a g (i + 1)
 unfolding redone
@@ -337,12 +348,14 @@ module _ (g h : List ℕ) where
   pub begun-same : (t c : ℕ) → Agree g h c → begunIn g t c ≡ begunIn h t c
   begun-same t c a = any-same _ _ c (λ i l. ap (λ (r : Record). isBegin r t) (a i l))
 
-  pub changes-same : (t c : ℕ) → Agree g h c → changesIn g t c ≡ changesIn h t c
+  -- u and v, the tests of what going back appended, agree too
+  pub changes-same : (u v : ℕ → Bool) (t c : ℕ) → ((i : ℕ) → i < c → u i ≡ v i) → Agree g h c → changesIn u g t c ≡ changesIn v h t c
   unfolding changesIn
-  changes-same t zero a = refl
-  changes-same t (suc i) a =
-      ap (changesNext t i (recordAt g i)) (changes-same t i (λ j l. a j (omega arith)))
-      ∙ ap (λ (r : Record). changesNext t i r (changesIn h t i)) (a i (omega arith))
+  changes-same u v t zero d a = refl
+  changes-same u v t (suc i) d a =
+      ap (changesNext (u i) t i (recordAt g i)) (changes-same u v t i (λ j l. d j (omega arith)) (λ j l. a j (omega arith)))
+      ∙ ap (λ (b : Bool). changesNext b t i (recordAt g i) (changesIn v h t i)) (d i (omega arith))
+      ∙ ap (λ (r : Record). changesNext (v i) t i r (changesIn v h t i)) (a i (omega arith))
 
 -- a record appended
 
@@ -359,8 +372,9 @@ module _ (g : List ℕ) (c : ℕ) (r : Record) (h : recordWords * c + recordWord
       ∙ ap (λ (b : Bool). b || isBegin (recordAt (recorded g c r) c) t) (begun-same (recorded g c r) g t c same-before)
       ∙ ap (λ (s : Record). begunIn g t c || isBegin s t) (recorded-same g c r h)
 
-  pub changes-append : (t : ℕ) → changesIn (recorded g c r) t (c + 1) ≡ changesNext t c r (changesIn g t c)
-  changes-append t =
-      sym (changes-next (recorded g c r) t c)
-      ∙ ap (changesNext t c (recordAt (recorded g c r) c)) (changes-same (recorded g c r) g t c same-before)
-      ∙ ap (λ (s : Record). changesNext t c s (changesIn g t c)) (recorded-same g c r h)
+  -- v notes what u notes of the records before
+  pub changes-append : (u v : ℕ → Bool) (t : ℕ) → ((i : ℕ) → i < c → v i ≡ u i) → changesIn v (recorded g c r) t (c + 1) ≡ changesNext (v c) t c r (changesIn u g t c)
+  changes-append u v t d =
+      sym (changes-next v (recorded g c r) t c)
+      ∙ ap (changesNext (v c) t c (recordAt (recorded g c r) c)) (changes-same (recorded g c r) g v u t c d same-before)
+      ∙ ap (λ (s : Record). changesNext (v c) t c s (changesIn u g t c)) (recorded-same g c r h)

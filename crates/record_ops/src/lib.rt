@@ -2,6 +2,7 @@
 mod effects;
 mod naming;
 mod room;
+mod turns;
 
 pub use effects::apply;
 pub use effects::put_record;
@@ -12,3 +13,10 @@ pub use naming::names_page;
 pub use naming::page_named;
 pub use room::changes_left;
 pub use room::reserved;
+pub use turns::turn_at;
+
+// What a walk down the log finds at a record: a change that is left, or else how many changes further down are undone.
+pub enum Turn {
+    Left,
+    Past(u32),
+}

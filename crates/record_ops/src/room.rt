@@ -1,15 +1,13 @@
 ghost use mathlib.Core.Path.{_≡_};
-ghost use mathlib.Core.Bool.{true};
-ghost use mathlib.Core.List.{List};
-ghost use Prim.Native.Nat.{ℕ, _+_, _*_, _<_, _≤_};
+ghost use Prim.Native.Nat.{_+_, _*_, _<_, _≤_};
 ghost use lib.ListN.{length};
 ghost use Rattle.words.specs.Tests.{if};
 ghost use Rattle.words.specs.Bits.{bit};
-ghost use Rattle.pages.specs.Geometry.{maxPages};
-ghost use Rattle.records.specs.Records.{recordWords, maxRecords, txnCount};
-ghost use Rattle.records.specs.Soundness.{recordsSound};
-ghost use Rattle.records.specs.Changes.{changesLeft, reserved};
-ghost use Rattle.record_ops.specs.Reserves.{soughtNext, metNext, WalkedTo};
+ghost use Rattle.records.specs.Records.{maxRecords, txnCount};
+ghost use Rattle.records.specs.Changes.{noted, changesLeft, reserved};
+ghost use Rattle.record_ops.specs.Reserves.{Walkable, soughtNext, Found};
+use super::Turn;
+use super::turns::turn_at;
 use bit_ops::bits;
 use records::Record;
 
@@ -33,26 +31,16 @@ fn sought_next(sought: u32, r: Record) -> u32
     }
 }
 
-// How many changes of its transaction were met, with record r.
-fn met_next(r: Record, x: u32) -> u32
-    requires { ⌜ x ≤ maxRecords ⌝ }
-    ensures { λ y. ⌜ y ≡ metNext r x ⌝ }
-{
-    if (r.kind == records::CREATE) | (r.kind == records::SET) {
-        x + 1
-    } else {
-        x
-    }
-}
-
 // Down the log until the last begin of every transaction in the mask is met. Where one has none the walk ends at the first record.
-// Records of others are passed over by a branch: what ended is most of a log, and a count would wait for the one before it.
-fn walk_down(log: &[u32], c: usize, mask: u32) -> Walk
-    requires { ⌜ (recordWords * c ≤ length (now log)) × (c ≤ maxRecords) × (recordsSound maxPages (now log) c ≡ true) ⌝ }
-    ensures { λ w. ⌜ WalkedTo (now (log .entry)) mask c 0 (w .sought) (w .changes) ⌝ }
+// Records of others are passed over by a branch: what ended is most of a log, and a count would wait for the one before it. Of the
+// words from word `from` only those of records that count are read.
+fn walk_down(log: &[u32], work: &[u32], from: usize, c: usize, mask: u32) -> Walk
+    requires { ⌜ Walkable (now log) (now work) from c ⌝ }
+    ensures { λ w. ⌜ Found (noted (now (work .entry)) from) (now (log .entry)) mask c (w .sought) (w .changes) ⌝ }
 {
     let mut sought = mask;
     let mut changes = [0u32; TXNS];
+    let mut undone = [0u32; TXNS];
     let mut i = c;
     while 0 < i {
         if sought == 0 {
@@ -62,9 +50,12 @@ fn walk_down(log: &[u32], c: usize, mask: u32) -> Walk
         let r = log_reader::record_at(log, i);
         let t = r.txn as usize;
         if words::has_bit(sought, t) {
-            let x = met_next(r, changes[t]);
-            changes[t] = x;
             sought = sought_next(sought, r);
+            let turn = turn_at(r, work[from + i], r.txn, undone[t]);
+            match turn {
+                Turn::Left => changes[t] += 1,
+                Turn::Past(p) => undone[t] = p,
+            }
         }
     }
     Walk { sought, changes }
@@ -89,13 +80,13 @@ fn reserve_of(active: u32, sought: u32, t: usize, x: u32) -> u32
     1 + left_of(sought, t, x)
 }
 
-// What the active transactions reserve.
-pub fn reserved(log: &[u32], c: usize, active: u32) -> u32
-    requires { ⌜ (recordWords * c ≤ length (now log)) × (c ≤ maxRecords) × (recordsSound maxPages (now log) c ≡ true) ⌝ }
-    ensures { λ y. ⌜ ((w : List ℕ) → y ≡ reserved w (now (log .entry)) c active) ⌝ }
+// What the active transactions reserve. The words of work from word `from` say which records going back appended.
+pub fn reserved(log: &[u32], work: &[u32], from: usize, c: usize, active: u32) -> u32
+    requires { ⌜ Walkable (now log) (now work) from c ⌝ }
+    ensures { λ y. ⌜ y ≡ reserved (noted (now (work .entry)) from) (now (log .entry)) c active ⌝ }
     ensures { λ y. ⌜ y ≤ txnCount * (maxRecords + 1) ⌝ }
 {
-    let walk = walk_down(log, c, active);
+    let walk = walk_down(log, work, from, c, active);
     let mut sum: u32 = 0;
     for t in 0..TXNS {
         sum += reserve_of(active, walk.sought, t, walk.changes[t]);
@@ -104,10 +95,10 @@ pub fn reserved(log: &[u32], c: usize, active: u32) -> u32
 }
 
 // How many creates and sets of t are left.
-pub fn changes_left(log: &[u32], c: usize, t: usize) -> u32
-    requires { ⌜ (recordWords * c ≤ length (now log)) × (c ≤ maxRecords) × (recordsSound maxPages (now log) c ≡ true) × (t < txnCount) ⌝ }
-    ensures { λ y. ⌜ ((w : List ℕ) → y ≡ length (changesLeft w (now (log .entry)) c t)) ⌝ }
+pub fn changes_left(log: &[u32], work: &[u32], from: usize, c: usize, t: usize) -> u32
+    requires { ⌜ Walkable (now log) (now work) from c × (t < txnCount) ⌝ }
+    ensures { λ y. ⌜ y ≡ length (changesLeft (noted (now (work .entry)) from) (now (log .entry)) c t) ⌝ }
 {
-    let walk = walk_down(log, c, bits::mask_of(t));
+    let walk = walk_down(log, work, from, c, bits::mask_of(t));
     left_of(walk.sought, t, walk.changes[t])
 }

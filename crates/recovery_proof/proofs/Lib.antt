@@ -2,7 +2,6 @@
 pub mod Counting
 pub mod Invariant
 pub mod Recovery
-pub mod Abort
 pub mod Shapes
 pub mod Masks
 pub mod Reopening
@@ -10,10 +9,8 @@ pub mod Reversal
 pub mod Decided
 pub mod Maps
 pub mod Appending
-pub mod Backing
 pub mod Changes
 pub mod Steps
 pub mod Cells
 pub mod Naming
 pub mod Logged
-pub mod Rolling

@@ -13,13 +13,11 @@ use Rattle.collector.specs.State as tables
 use Rattle.book.specs.Pointers.{sweeps}
 use Rattle.machine_view.specs.View.{applied, unapplied}
 use Rattle.recovery_proof.specs.Lines.{Line, with, without, Recovers}
-use Rattle.recovery_proof.specs.Moves.{Log, begin, lock, write, commit, sweep, wrote, sweeping, back, ending}
-use Rattle.recovery_proof.specs.Shapes.{shapes, recs, onlyChanges, undoings}
+use Rattle.recovery_proof.specs.Moves.{Log, begin, lock, write, commit, end, sweep, wrote, sweeping}
+use Rattle.recovery_proof.specs.Shapes.{shapes, recs}
 use Rattle.recovery_proof.proofs.Invariant.{Inv, carried, past-drop}
 use Rattle.recovery_proof.proofs.Recovery.{keep, fresh-start}
-use Rattle.recovery_proof.proofs.Abort.{rolled, abort-state, abort-inv}
 use Rattle.recovery_proof.proofs.Shapes.{at-object, unnamed, sweep-applied, shape-begin, shape-commit, shape-aborted, shape-change, shape-sweep}
-use Rattle.recovery_proof.proofs.Backing.{back-shapes}
 use Rattle.recovery_proof.proofs.Appending.{shapes-drop, recs-drop}
 
 -- full and committed objects, write locks, running transactions, records newest first
@@ -39,7 +37,7 @@ module _ (base F K : ℕ → Obj) (w : ℕ → ℕ → Bool) (a : ℕ → Bool) 
   pub log-lock : (t p : ℕ) → a t ≡ true → ((u : ℕ) → w u p ≡ true → u ≡ t) → Inv base (logOf F K (add w t p) a rs)
   log-lock t p h n = keep base _ _ (lock t p h n) i
 
-  -- a create, set or uncreate under the write lock, which can be taken back
+  -- a create, set or uncreate under the write lock, which can be taken back: also one that going back or an abort appends
   pub log-change : (r : Record) → namesObject r ≡ true → w (r .txn) (pageOf (r .object)) ≡ true → unapplied r (r .object) (applied r (r .object) (F (r .object))) ≡ F (r .object)
       → Inv base (logOf (λ x. applied r x (F x)) K w a (r ∷ rs))
   unfolding shapes
@@ -62,15 +60,10 @@ module _ (base F K : ℕ → Obj) (w : ℕ → ℕ → Bool) (a : ℕ → Bool) 
       (ap (λ (l : Line). l ∷ shapes rs) (sym (shape-sweep r k)))
       (keep base _ _ (sweep (sweeps r) n) i)
 
-  -- an abort whose open records are creates and sets
-  pub log-abort : (t : ℕ) → onlyChanges t rs ≡ true
-      → Inv base (logOf (mix (λ o. w t (pageOf o)) K F) K (tables.drop w t) (without a t) (abortedOf t ∷ undoings t rs rs))
+  -- the end of an abort: t's pages are as committed
+  pub log-end : (t : ℕ) → ((o : ℕ) → w t (pageOf o) ≡ true → F o ≡ K o) → Inv base (logOf F K (tables.drop w t) (without a t) (abortedOf t ∷ rs))
   unfolding shapes
-  log-abort t h = let s = logOf F K w a rs in let b = back t (shapes rs) s in let r = rolled base s t i in
-      carried base (ending b t) (logOf (mix (λ o. w t (pageOf o)) K F) K (tables.drop w t) (without a t) (abortedOf t ∷ undoings t rs rs))
-      (abort-state base s t i) (λ o. rw (r .comm) refl) (λ u p. rw (r .wr) refl) (λ u. rw (r .act) refl)
-      (rw (back-shapes t rs rs s refl h, shape-aborted (abortedOf t) refl) refl)
-      (abort-inv base s t i)
+  log-end t h = rw (shape-aborted (abortedOf t) refl) (keep base _ _ (end t h) i)
 
   -- every older part of the log
   pub log-past : (j : ℕ) → Recovers base (shapes (drop j rs))

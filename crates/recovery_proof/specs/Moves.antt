@@ -59,12 +59,3 @@ pub data Moves (s : Log) : Log → Type 0 where
 -- no lines over these objects
 abbrev pub opened : (ℕ → Obj) → Log
 opened base = record { full = base; comm = base; wr = λ t p. false; act = λ t. false; lines = [] }
-
--- an abort's undoing: for each open line of t, newest first, the line that takes it back
-unfoldable pub back : ℕ → List Line → Log → Log
-back t [] s = s
-back t (began u ∷ ls) s = elim (eqb u t) [ true ↦ s | false ↦ back t ls s ]
-back t (kept u ∷ ls) s = elim (eqb u t) [ true ↦ s | false ↦ back t ls s ]
-back t (ended u ∷ ls) s = elim (eqb u t) [ true ↦ s | false ↦ back t ls s ]
-back t (acts u x d b ∷ ls) s = elim (eqb u t) [ true ↦ back t ls (wrote s t x b d) | false ↦ back t ls s ]
-back t (cleared q ∷ ls) s = back t ls s

@@ -1,12 +1,11 @@
 -- Log records read as lines over objects. This serves the proof of demand 3; its claim never mentions it. Assumes nothing.
 use Prim.Native.Nat.{ℕ, zero, suc}
-use mathlib.Core.Bool.{Bool, true, false, not, _&&_, _||_}
+use mathlib.Core.Bool.{Bool, false, _||_}
 use mathlib.Core.List.{List, [], _∷_}
 use lib.Dec.{eqb}
 use Rattle.words.specs.Tests.{if}
 use Rattle.records.specs.declared.Record.{Record}
-use Rattle.records.specs.Records.{recordAt, isBegin, isChange, isEnd}
-use Rattle.records.specs.Effects.{undoing}
+use Rattle.records.specs.Records.{recordAt}
 use Rattle.records.specs.Soundness.{namesObject}
 use Rattle.book.specs.Pointers.{sweeps, makesOrFrees, writes}
 use Rattle.machine_view.specs.View.{applied, unapplied}
@@ -41,22 +40,3 @@ writesOcc rs x = someOf (λ r. makesOrFrees r x) rs
 
 abbrev pub writesWord : List Record → ℕ → ℕ → Bool
 writesWord rs x f = someOf (λ r. writes r x f) rs
-
--- the record begins or ends a transaction of t: what is open of t stands after it
-abbrev pub bounds : Record → ℕ → Bool
-bounds r t = isBegin r t || (isEnd r && eqb (r .txn) t)
-
--- what is open of t are creates and sets: no uncreate
-unfoldable pub onlyChanges : ℕ → List Record → Bool
-onlyChanges t [] = true
-onlyChanges t (r ∷ rs) = if (bounds r t) true (not (eqb (r .kind) 6 && eqb (r .txn) t) && onlyChanges t rs)
-
--- an abort's records, newest first: those of done, and for each open create and set of t in rs, newest first, its undoing record
-unfoldable pub undoings : ℕ → List Record → List Record → List Record
-undoings t [] done = done
-undoings t (r ∷ rs) done = if (bounds r t) done (if (isChange r t) (undoings t rs (undoing r ∷ done)) (undoings t rs done))
-
--- the same, of the records of log g with these numbers
-unfoldable pub undoingsOf : List ℕ → List ℕ → List Record → List Record
-undoingsOf g [] done = done
-undoingsOf g (i ∷ is) done = undoingsOf g is (undoing (recordAt g i) ∷ done)

@@ -14,8 +14,9 @@ use Rattle.areas.specs.Answers.{verdict, all-passed, need-holds, need-fails}
 use Rattle.areas.specs.Areas.{Areas, areas, out}
 use Rattle.areas.specs.Layout.{reopeningAt, reopeningPageAt, running, finished}
 use Rattle.areas.specs.Tables.{at}
-use Rattle.areas.specs.Entry.{pages, reopening, wellFormed, called-refused, called-passed}
+use Rattle.areas.specs.Entry.{pages, records, reopening, wellFormed, called-refused, called-passed}
 use Rattle.calls.specs.Reopening.{restepTests, pageStored, reopeningOver, callRestep}
+use Rattle.stability.specs.Checks.{unnoted}
 
 module _ (s : Areas) where
   pub restep-as : restepTests (areas [] [] [] [] [] (s .work)) ≡ restepTests s
@@ -41,7 +42,7 @@ module _ (s c r g k w : List ℕ) (h : wellFormed true (areas s c r g k w) ≡ t
     unfolding callRestep pageStored
     step-stores l es ew = rw (es, ew, ← (called-passed _ _ _ _ _ h refl (e ∙ ap verdict (restep-as (areas s c r g k w)))), lt-ltb _ _ l)
 
-    pub step-ends : pages (areas s c r g k w) ≤ at w reopeningPageAt → {k′ w′ : List ℕ} → k′ ≡ set (set k 0 0) 1 0 → w′ ≡ set (set w reopeningAt finished) reopeningPageAt 0
+    pub step-ends : pages (areas s c r g k w) ≤ at w reopeningPageAt → {k′ w′ : List ℕ} → k′ ≡ set (set k 0 0) 1 0 → w′ ≡ set (set (unnoted w (pages (areas s c r g k w)) (records (areas s c r g k w))) reopeningAt finished) reopeningPageAt 0
         → out (Done (at w reopeningPageAt)) s c r g k′ w′ ≡ callRestep (areas s c r g k w)
     unfolding callRestep reopeningOver
     step-ends l ek ew = rw (ek, ew, ← (called-passed _ _ _ _ _ h refl (e ∙ ap verdict (restep-as (areas s c r g k w)))), le-ltb _ _ l)

@@ -14,8 +14,9 @@ ghost use Rattle.records.specs.Order.{openIn};
 ghost use Rattle.records.specs.Recovery.{recovered};
 ghost use Rattle.areas.specs.Answers.{verdict};
 ghost use Rattle.areas.specs.Areas.{areas, countWords};
-ghost use Rattle.areas.specs.Layout.{reopeningAt, reopeningPageAt, finished};
+ghost use Rattle.areas.specs.Layout.{HasUndoing, reopeningAt, reopeningPageAt, finished};
 ghost use Rattle.calls.specs.Reopening.{restepTests};
+ghost use Rattle.stability.specs.Checks.{unnoted};
 ghost use Rattle.reopening.specs.Reopens.{freeAfter};
 use areas::Check;
 use areas::Refusal;
@@ -101,12 +102,12 @@ pub fn store_next(stored: &mut [u32], copies: &[u32], work: &mut [u32], p: u32)
     work[layout::REOPENING_PAGE_AT] = p + 1;
 }
 
-// The log becomes empty, and the reopening finished.
-pub fn finish(counts: &mut [u32], work: &mut [u32])
-    requires { ⌜ (countWords ≤ length (now counts)) × (reopeningPageAt < length (now work)) ⌝ }
-    ensures { λ _. ⌜ (now (counts .exit) ≡ set (set (now (counts .entry)) 0 0) 1 0) × (now (work .exit) ≡ set (set (now (work .entry)) reopeningAt finished) reopeningPageAt 0) ⌝ }
+// The log of l records becomes empty, and the reopening of a store of n pages finished.
+pub fn finish(counts: &mut [u32], work: &mut [u32], n: usize, l: usize)
+    requires { ⌜ (countWords ≤ length (now counts)) × HasUndoing (now work) n l ⌝ }
+    ensures { λ _. ⌜ (now (counts .exit) ≡ set (set (now (counts .entry)) 0 0) 1 0) × (now (work .exit) ≡ set (set (unnoted (now (work .entry)) n l) reopeningAt finished) reopeningPageAt 0) ⌝ }
 {
-    stability::empty(counts);
+    stability::empty(counts, work, n, l);
     work[layout::REOPENING_AT] = layout::FINISHED;
     work[layout::REOPENING_PAGE_AT] = 0;
 }

@@ -67,11 +67,12 @@ pub fn held_restep(
         Check::Refuse(x) => Answer::Refused(x),
         Check::Accept => {
             let p = work[layout::REOPENING_PAGE_AT];
-            if (p as usize) < stored.len() / PAGE_WORDS {
+            let n = stored.len() / PAGE_WORDS;
+            if (p as usize) < n {
                 reopening::store_next(stored, copies, work, p);
                 return Answer::Done(p);
             }
-            reopening::finish(counts, work);
+            reopening::finish(counts, work, n, log.len() / RECORD_WORDS);
             Answer::Done(p)
         }
     }

@@ -10,7 +10,7 @@ use lib.Dec.{eqb}
 use native.Mathlib.Omega.{arith}
 use borrow.Author.Tests.{lt-ltb, le-ltb, le-leb, lt-leb}
 use Rattle.words.specs.Tests.{and-t, and-f}
-use Rattle.words.specs.Spans.{same}
+use Rattle.words.specs.Spans.{same, fill}
 use Rattle.pages.specs.Geometry.{maxPages}
 use Rattle.records.specs.Naming.{lastNaming}
 use Rattle.record_laws.specs.NamingLaws.{last-le}
@@ -19,9 +19,13 @@ use Rattle.areas.specs.declared.Refusal.the-variants.{OutOfRange, WrongState, U
 use Rattle.areas.specs.declared.Check.the-variants.{Accept, Refuse}
 use Rattle.areas.specs.Answers.{verdict, all-passed, need-holds, need-fails}
 use Rattle.areas.specs.Areas.{Areas, areas, receivedCount, stableCount}
-use Rattle.areas.specs.Layout.{activeAt}
+use Rattle.areas.specs.Layout.{activeAt, undoingAt}
 use Rattle.areas.specs.Tables.{at}
 use Rattle.calls.specs.Stability.{forceTests, storeTests, emptyTests}
+
+-- the tables once no undoing word of l records stays
+abbrev pub unnoted : List ℕ → ℕ → ℕ → List ℕ
+unnoted w n l = fill (λ i. 0) w (undoingAt n 0) l
 
 module _ (s : Areas) where
   pub force-as : forceTests (areas [] [] [] [] (s .counts) []) ≡ forceTests s

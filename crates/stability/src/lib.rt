@@ -9,8 +9,9 @@ ghost use Rattle.records.specs.Records.{recordWords, maxRecords};
 ghost use Rattle.records.specs.Soundness.{recordsSound};
 ghost use Rattle.areas.specs.Answers.{verdict};
 ghost use Rattle.areas.specs.Areas.{areas, countWords};
-ghost use Rattle.areas.specs.Layout.{activeAt};
+ghost use Rattle.areas.specs.Layout.{HasUndoing, activeAt};
 ghost use Rattle.calls.specs.Stability.{forceTests, storeTests, emptyTests};
+ghost use Rattle.stability.specs.Checks.{unnoted};
 use areas::Check;
 use areas::Refusal;
 use areas::layout;
@@ -74,11 +75,12 @@ pub fn empty_check(stored: &[u32], copies: &[u32], counts: &[u32], work: &[u32])
     Check::Accept
 }
 
-// Both counts become 0.
-pub fn empty(counts: &mut [u32])
-    requires { ⌜ countWords ≤ length (now counts) ⌝ }
-    ensures { λ _. ⌜ now (counts .exit) ≡ set (set (now (counts .entry)) 0 0) 1 0 ⌝ }
+// Both counts become 0, and no undoing word of the l records stays.
+pub fn empty(counts: &mut [u32], work: &mut [u32], n: usize, l: usize)
+    requires { ⌜ (countWords ≤ length (now counts)) × HasUndoing (now work) n l ⌝ }
+    ensures { λ _. ⌜ (now (counts .exit) ≡ set (set (now (counts .entry)) 0 0) 1 0) × (now (work .exit) ≡ unnoted (now (work .entry)) n l) ⌝ }
 {
     counts[layout::RECEIVED] = 0;
     counts[layout::STABLE] = 0;
+    page_ops::areas::clear_words(work, layout::undoing_at(n, 0), l);
 }

@@ -8,6 +8,7 @@ use areas::Answer;
 use areas::Check;
 use areas::Refusal;
 use pages::PAGE_WORDS;
+use records::RECORD_WORDS;
 
 // Makes one more record stable. A store that is known to be well formed.
 pub fn held_force(
@@ -100,7 +101,7 @@ pub fn held_empty_log(
     received: &[u32],
     log: &[u32],
     counts: &mut [u32],
-    work: &[u32],
+    work: &mut [u32],
 ) -> Answer
     requires { ⌜ wellFormed true (areas (now stored) (now copies) (now received) (now log) (now counts) (now work)) ≡ true ⌝ }
     ensures { λ r. ⌜ out r (now (stored .exit)) (now (copies .exit)) (now (received .exit)) (now (log .exit)) (now (counts .exit)) (now (work .exit)) ≡ callEmpty (areas (now (stored .entry)) (now (copies .entry)) (now (received .entry)) (now (log .entry)) (now (counts .entry)) (now (work .entry))) ⌝ }
@@ -112,7 +113,8 @@ pub fn held_empty_log(
     match k {
         Check::Refuse(x) => Answer::Refused(x),
         Check::Accept => {
-            stability::empty(counts);
+            let n = stored.len() / PAGE_WORDS;
+            stability::empty(counts, work, n, log.len() / RECORD_WORDS);
             Answer::Done(0)
         }
     }
@@ -125,7 +127,7 @@ pub fn empty_log(
     received: &[u32],
     log: &[u32],
     counts: &mut [u32],
-    work: &[u32],
+    work: &mut [u32],
 ) -> Answer
     ensures { λ r. ⌜ out r (now (stored .exit)) (now (copies .exit)) (now (received .exit)) (now (log .exit)) (now (counts .exit)) (now (work .exit)) ≡ callEmpty (areas (now (stored .entry)) (now (copies .entry)) (now (received .entry)) (now (log .entry)) (now (counts .entry)) (now (work .entry))) ⌝ }
 {

@@ -5,6 +5,7 @@ mod tables;
 pub use log::CHANGE_ROOM;
 pub use log::SWEEP_ROOM;
 pub use log::append;
+pub use log::changes_left;
 pub use log::room_beyond;
 pub use tables::can_read;
 pub use tables::can_write;

@@ -1,10 +1,10 @@
 ghost use mathlib.Core.Path.{_≡_};
 ghost use Prim.Native.Nat.{_+_, _<_, _≤_};
 ghost use lib.ListN.{length, getD, set};
-ghost use Rattle.records.specs.Records.{maxRecords, recorded};
+ghost use Rattle.records.specs.Records.{txnCount, maxRecords, recorded};
 ghost use Rattle.records.specs.Effects.{effect};
-ghost use Rattle.areas.specs.Layout.{activeAt};
-ghost use Rattle.store_ops.specs.Logs.{Kept, Fits, roomIn};
+ghost use Rattle.areas.specs.Layout.{HasUndoing};
+ghost use Rattle.store_ops.specs.Logs.{Kept, Fits, roomIn, leftIn};
 use areas::layout;
 use records::RECORD_WORDS;
 use records::Record;
@@ -14,15 +14,26 @@ pub const CHANGE_ROOM: usize = 2;
 
 pub const SWEEP_ROOM: usize = 1;
 
-// Whether k more records fit beyond those used and reserved.
-pub fn room_beyond(log: &[u32], counts: &[u32], work: &[u32], k: usize) -> bool
+// Whether k more records fit beyond those used and reserved, in a store of n pages.
+pub fn room_beyond(log: &[u32], counts: &[u32], work: &[u32], n: usize, k: usize) -> bool
     requires { ⌜ Kept (now log) (now counts) ⌝ }
-    requires { ⌜ (activeAt < length (now work)) × (k ≤ maxRecords) ⌝ }
-    ensures { λ r. ⌜ r ≡ roomIn (now (log .entry)) (now (counts .entry)) (now (work .entry)) k ⌝ }
+    requires { ⌜ HasUndoing (now work) n (getD (now counts) 0 0) × (k ≤ maxRecords) ⌝ }
+    ensures { λ r. ⌜ r ≡ roomIn (now (log .entry)) (now (counts .entry)) (now (work .entry)) n k ⌝ }
 {
     let c = counts[layout::RECEIVED] as usize;
-    let held = record_ops::reserved(log, c, work[layout::ACTIVE_AT]) as usize;
+    let from = layout::undoing_at(n, 0);
+    let held = record_ops::reserved(log, work, from, c, work[layout::ACTIVE_AT]) as usize;
     c + held + k <= log.len() / RECORD_WORDS
+}
+
+// How many creates and sets of t are left, in a store of n pages.
+pub fn changes_left(log: &[u32], counts: &[u32], work: &[u32], n: usize, t: u32) -> u32
+    requires { ⌜ Kept (now log) (now counts) ⌝ }
+    requires { ⌜ HasUndoing (now work) n (getD (now counts) 0 0) × (t < txnCount) ⌝ }
+    ensures { λ y. ⌜ (y ≡ length (leftIn (now (log .entry)) (now (counts .entry)) (now (work .entry)) n t)) × (y ≤ getD (now (counts .entry)) 0 0) ⌝ }
+{
+    let c = counts[layout::RECEIVED] as usize;
+    record_ops::changes_left(log, work, layout::undoing_at(n, 0), c, t as usize)
 }
 
 // A record received: written behind the others, counted, and shown by the received pages. Answers the new count.

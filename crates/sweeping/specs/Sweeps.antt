@@ -19,10 +19,10 @@ use Rattle.areas.specs.declared.Refusal.{Refusal}
 use Rattle.areas.specs.declared.Refusal.the-variants.{LogFull}
 use Rattle.areas.specs.declared.Check.the-variants.{Accept, Refuse}
 use Rattle.areas.specs.Answers.{need, verdict, need-holds, need-fails, all-passed}
-use Rattle.areas.specs.Areas.{Areas, Out, areas, done, refused, checked-pass, checked-refuse, withWork, appended}
+use Rattle.areas.specs.Areas.{Areas, areas, done, refused, checked-pass, checked-refuse, withWork, appended}
 use Rattle.areas.specs.Layout.{passPageAt, readersAt, writersAt, createdAt, colourAt}
 use Rattle.areas.specs.Tables.{at}
-use Rattle.calls.specs.Room.{sweepRoom, roomBeyond}
+use Rattle.calls.specs.Room.{sweepRoom}
 use Rattle.calls.specs.Pass.{locked, unmarked, sweepMap, freedMap, advanced, sweepTests, sweptPage, swept}
 use Rattle.acceptance.specs.Pass.{sweep-facts}
 use Rattle.store_ops.specs.Logs.{roomIn, room-in}
@@ -68,28 +68,28 @@ module _ (c w : List ℕ) (n p : ℕ) where
 abbrev pub roomFor : List ℕ → List ℕ → List ℕ → Areas
 roomFor g k w = areas [] [] [] g k w
 
-tests-in : (s c r g k w : List ℕ) (m : ℕ) → sweepTests (roomFor g k w) m ≡ sweepTests (areas s c r g k w) m
+tests-in : (s c r g k w : List ℕ) (n m : ℕ) → sweepTests (roomFor g k w) n m ≡ sweepTests (areas s c r g k w) n m
 unfolding sweepTests
-tests-in s c r g k w m = ap (λ (b : Bool). need 11 LogFull (eqb m 0 || b) ∷ []) (room-in s c r g k w sweepRoom)
+tests-in s c r g k w n m = ap (λ (b : Bool). need 11 LogFull (eqb m 0 || b) ∷ []) (room-in s c r g k w n sweepRoom)
 
-module _ (g k w : List ℕ) (m : ℕ) where
-  pub needs-none : m ≡ 0 → Accept ≡ verdict (sweepTests (roomFor g k w) m)
+module _ (g k w : List ℕ) (n m : ℕ) where
+  pub needs-none : m ≡ 0 → Accept ≡ verdict (sweepTests (roomFor g k w) n m)
   unfolding sweepTests
   needs-none e = all-passed ∙ need-holds _ _ _ _ (or-l _ _ (eq-eqb m 0 e))
 
-  module _ (b : Bool) (e : b ≡ roomIn g k w sweepRoom) (some : m ≡ 0 → ⊥) where
-    pub needs-full : b ≡ false → Refuse LogFull ≡ verdict (sweepTests (roomFor g k w) m)
+  module _ (b : Bool) (e : b ≡ roomIn g k w n sweepRoom) (some : m ≡ 0 → ⊥) where
+    pub needs-full : b ≡ false → Refuse LogFull ≡ verdict (sweepTests (roomFor g k w) n m)
     unfolding sweepTests
     needs-full h = need-fails _ _ _ _ (rw (ne-eqb m 0 some) (sym e ∙ h))
 
-    pub needs-room : b ≡ true → Accept ≡ verdict (sweepTests (roomFor g k w) m)
+    pub needs-room : b ≡ true → Accept ≡ verdict (sweepTests (roomFor g k w) n m)
     unfolding sweepTests
     needs-room h = all-passed ∙ need-holds _ _ _ _ (rw (ne-eqb m 0 some) (sym e ∙ h))
 
 -- a record that has room fits
-pub record-fits : (g k w : List ℕ) (m : ℕ) → length g ≤ recordWords * maxRecords → Accept ≡ verdict (sweepTests (roomFor g k w) m) → (m ≡ 0 → ⊥) →
+pub record-fits : (g k w : List ℕ) (n m : ℕ) → length g ≤ recordWords * maxRecords → Accept ≡ verdict (sweepTests (roomFor g k w) n m) → (m ≡ 0 → ⊥) →
     (getD k 0 0 < maxRecords) × (recordWords * getD k 0 0 + recordWords ≤ length g)
-record-fits g k w m top h some = let f = sweep-facts (roomFor g k w) m (sym h) .room some in omega arith
+record-fits g k w n m top h some = let f = sweep-facts (roomFor g k w) n m (sym h) .room some in omega arith
 
 -- the areas after a step
 unfoldable pub sweptAreas : Areas → ℕ → ℕ → ℕ → Areas
@@ -110,14 +110,14 @@ module _ (s c r g k w : List ℕ) (n p m : ℕ) (page : p ≡ at w passPageAt) (
   map-freed : m ≡ freedMap (areas s c r g k w) n (at w passPageAt)
   map-freed = freed ∙ ap (freedIn c w n) page ∙ freed-in s c r g k w n (at w passPageAt)
 
-  tests-of : verdict (sweepTests (areas s c r g k w) (freedMap (areas s c r g k w) n (at w passPageAt))) ≡ verdict (sweepTests (roomFor g k w) m)
-  tests-of = ap (λ (x : ℕ). verdict (sweepTests (areas s c r g k w) x)) (sym map-freed) ∙ ap verdict (sym (tests-in s c r g k w m))
+  tests-of : verdict (sweepTests (areas s c r g k w) n (freedMap (areas s c r g k w) n (at w passPageAt))) ≡ verdict (sweepTests (roomFor g k w) n m)
+  tests-of = ap (λ (x : ℕ). verdict (sweepTests (areas s c r g k w) n x)) (sym map-freed) ∙ ap verdict (sym (tests-in s c r g k w n m))
 
-  pub step-full : (x : Refusal) → Refuse x ≡ verdict (sweepTests (roomFor g k w) m) → refused x (areas s c r g k w) ≡ swept (areas s c r g k w) n
+  pub step-full : (x : Refusal) → Refuse x ≡ verdict (sweepTests (roomFor g k w) n m) → refused x (areas s c r g k w) ≡ swept (areas s c r g k w) n
   unfolding swept
   step-full x h = checked-refuse _ _ _ _ (tests-of ∙ sym h)
 
-  pub step-sweeps : (v : ℕ) (a : Areas) → Accept ≡ verdict (sweepTests (roomFor g k w) m) → v ≡ slotsSet m → a ≡ sweptAreas (areas s c r g k w) n p m
+  pub step-sweeps : (v : ℕ) (a : Areas) → Accept ≡ verdict (sweepTests (roomFor g k w) n m) → v ≡ slotsSet m → a ≡ sweptAreas (areas s c r g k w) n p m
       → done v a ≡ swept (areas s c r g k w) n
   unfolding swept sweptAreas
   step-sweeps v a h e f = rw (e, f, page, map-freed) (checked-pass _ _ _ (tests-of ∙ sym h))

@@ -10,7 +10,7 @@ ghost use Rattle.pages.specs.Objects.{mapAt};
 ghost use Rattle.records.specs.Records.{recordWords, maxRecords};
 ghost use Rattle.areas.specs.Answers.{verdict};
 ghost use Rattle.areas.specs.Areas.{areas, out, countWords};
-ghost use Rattle.areas.specs.Layout.{HasTables, activeAt};
+ghost use Rattle.areas.specs.Layout.{HasTables, HasUndoing};
 ghost use Rattle.calls.specs.Pass as spec;
 ghost use Rattle.store_ops.specs.Logs.{Kept};
 ghost use Rattle.pass_record.specs.Step.{passOf};
@@ -78,15 +78,15 @@ fn freed_map(copies: &[u32], work: &[u32], n: usize, p: usize) -> u32
 }
 
 // Refusal 11: no room for the record of a step that frees the slots of m.
-fn sweep_check(log: &[u32], counts: &[u32], work: &[u32], m: u32) -> Check
+fn sweep_check(log: &[u32], counts: &[u32], work: &[u32], n: usize, m: u32) -> Check
     requires { ⌜ Kept (now log) (now counts) ⌝ }
-    requires { ⌜ activeAt < length (now work) ⌝ }
-    ensures { λ r. ⌜ r ≡ verdict (spec.sweepTests (areas [] [] [] (now (log .entry)) (now (counts .entry)) (now (work .entry))) m) ⌝ }
+    requires { ⌜ HasUndoing (now work) n (getD (now counts) 0 0) ⌝ }
+    ensures { λ r. ⌜ r ≡ verdict (spec.sweepTests (areas [] [] [] (now (log .entry)) (now (counts .entry)) (now (work .entry))) n m) ⌝ }
 {
     if m == 0 {
         return Check::Accept;
     }
-    if !store_ops::room_beyond(log, counts, work, store_ops::SWEEP_ROOM) {
+    if !store_ops::room_beyond(log, counts, work, n, store_ops::SWEEP_ROOM) {
         return Check::Refuse(Refusal::LogFull);
     }
     Check::Accept
@@ -129,12 +129,12 @@ pub fn sweep_step(
     n: usize,
     pass: Pass,
 ) -> Answer
-    requires { ⌜ HasTables (now work) n × (pass .page < n) × (pass .phase ≡ 1 → ⊥) × (pass ≡ passOf (now work)) × (pageAt n ≤ length (now copies)) × (pageAt n ≤ length (now received)) × (mapAt (now copies) (pass .page) ≤ mapTop) ⌝ }
+    requires { ⌜ HasUndoing (now work) n (getD (now counts) 0 0) × (pass .page < n) × (pass .phase ≡ 1 → ⊥) × (pass ≡ passOf (now work)) × (pageAt n ≤ length (now copies)) × (pageAt n ≤ length (now received)) × (mapAt (now copies) (pass .page) ≤ mapTop) ⌝ }
     requires { ⌜ Kept (now log) (now counts) × (length (now log) ≤ recordWords * maxRecords) ⌝ }
     ensures { λ r. ⌜ ((s : List ℕ) → out r s (now (copies .exit)) (now (received .exit)) (now (log .exit)) (now (counts .exit)) (now (work .exit)) ≡ spec.swept (areas s (now (copies .entry)) (now (received .entry)) (now (log .entry)) (now (counts .entry)) (now (work .entry))) n) ⌝ }
 {
     let m = freed_map(copies, work, n, pass.page as usize);
-    let k = sweep_check(log, counts, work, m);
+    let k = sweep_check(log, counts, work, n, m);
     match k {
         Check::Refuse(x) => Answer::Refused(x),
         Check::Accept => Answer::Done(sweep_apply(copies, received, log, counts, work, n, pass, m)),

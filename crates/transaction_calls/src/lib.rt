@@ -26,7 +26,7 @@ pub fn held_begin(
         return Answer::Refused(Refusal::NotOpen);
     }
     let n = stored.len() / PAGE_WORDS;
-    let k = transactions::begin_check(log, counts, work, t);
+    let k = transactions::begin_check(log, counts, work, n, t);
     match k {
         Check::Refuse(x) => Answer::Refused(x),
         Check::Accept => Answer::Done(transactions::begin_apply(received, log, counts, work, n, t)),
@@ -112,7 +112,7 @@ pub fn held_abort(
         return Answer::Refused(Refusal::NotOpen);
     }
     let n = stored.len() / PAGE_WORDS;
-    let k = aborts::abort_check(log, counts, work, t);
+    let k = aborts::abort_check(log, counts, work, n, t);
     match k {
         Check::Refuse(x) => Answer::Refused(x),
         Check::Accept => {

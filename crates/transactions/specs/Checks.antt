@@ -11,7 +11,7 @@ use Rattle.areas.specs.declared.Check.{Check}
 use Rattle.areas.specs.declared.Check.the-variants.{Accept, Refuse}
 use Rattle.areas.specs.Answers.{verdict, all-passed, need-holds, need-fails}
 use Rattle.areas.specs.Areas.{Areas, areas}
-use Rattle.areas.specs.Layout.{HasTables, unflushedAt}
+use Rattle.areas.specs.Layout.{HasTables, HasUndoing, unflushedAt}
 use Rattle.areas.specs.Tables.{has, isActive}
 use Rattle.records.specs.Records.{txnCount, beginOf, commitOf}
 use Rattle.calls.specs.Room.{changeRoom, roomBeyond, roomWithin}
@@ -22,29 +22,29 @@ use Rattle.store_ops.specs.Logs.{Fits, open-fits}
 use Rattle.record_laws.specs.SoundRecords.{begin-sound, commit-sound}
 
 -- the lists that a check does not read
-pub begin-as : (s c r g k w : List ℕ) (t : ℕ) {x : Check} → x ≡ verdict (beginTests (areas [] [] [] g k w) t) → x ≡ verdict (beginTests (areas s c r g k w) t)
+pub begin-as : (s c r g k w : List ℕ) (n t : ℕ) {x : Check} → x ≡ verdict (beginTests (areas [] [] [] g k w) n t) → x ≡ verdict (beginTests (areas s c r g k w) n t)
 unfolding beginTests roomBeyond
-begin-as s c r g k w t e = e
+begin-as s c r g k w n t e = e
 
 pub commit-as : (s c r g k w : List ℕ) (n t : ℕ) {x : Check} → x ≡ verdict (commitTests (areas [] [] [] g k w) n t) → x ≡ verdict (commitTests (areas s c r g k w) n t)
 unfolding commitTests
 commit-as s c r g k w n t e = e
 
-module _ (s : Areas) (t : ℕ) where
-  pub begin-outside : txnCount ≤ t → Refuse OutOfRange ≡ verdict (beginTests s t)
+module _ (s : Areas) (n t : ℕ) where
+  pub begin-outside : txnCount ≤ t → Refuse OutOfRange ≡ verdict (beginTests s n t)
   unfolding beginTests
   begin-outside h = need-fails _ _ _ _ (le-ltb t txnCount h)
 
-  pub begin-active : t < txnCount → isActive (s .work) t ≡ true → Refuse WrongState ≡ verdict (beginTests s t)
+  pub begin-active : t < txnCount → isActive (s .work) t ≡ true → Refuse WrongState ≡ verdict (beginTests s n t)
   unfolding beginTests
   begin-active h a = need-fails _ _ _ _ (ap not a) ∙ need-holds _ _ _ _ (lt-ltb t txnCount h)
 
   module _ (h : t < txnCount) (a : isActive (s .work) t ≡ false) where
-    pub begin-passes : roomBeyond s changeRoom ≡ true → Accept ≡ verdict (beginTests s t)
+    pub begin-passes : roomBeyond s n changeRoom ≡ true → Accept ≡ verdict (beginTests s n t)
     unfolding beginTests
     begin-passes b = all-passed ∙ need-holds _ _ _ _ b ∙ need-holds _ _ _ _ (ap not a) ∙ need-holds _ _ _ _ (lt-ltb t txnCount h)
 
-    pub begin-full : roomBeyond s changeRoom ≡ false → Refuse LogFull ≡ verdict (beginTests s t)
+    pub begin-full : roomBeyond s n changeRoom ≡ false → Refuse LogFull ≡ verdict (beginTests s n t)
     unfolding beginTests
     begin-full b = need-fails _ _ _ _ b ∙ need-holds _ _ _ _ (ap not a) ∙ need-holds _ _ _ _ (lt-ltb t txnCount h)
 
@@ -82,17 +82,17 @@ module _ (s : Areas) (n t : ℕ) where
       commit-full f b = need-fails _ _ _ _ b ∙ need-holds _ _ _ _ f ∙ need-holds _ _ _ _ a ∙ need-holds _ _ _ _ (lt-ltb t txnCount h)
 
 -- what the code that makes the change needs of a call whose tests passed
-pub begin-ready : (s : Areas) (n t : ℕ) → Open s n → verdict (beginTests s t) ≡ Accept →
+pub begin-ready : (s : Areas) (n t : ℕ) → Open s n → verdict (beginTests s n t) ≡ Accept →
     Fits (s .received) (s .log) (s .counts) (beginOf t) × (HasTables (s .work) n × (0 < n) × (t < 32))
 begin-ready s n t o h =
-    let f = begin-facts s t h in
+    let f = begin-facts s n t h in
     let z = o .sized in
     let l = f .room in
     (open-fits s n (beginOf t) o (begin-sound n t (f .txn)) (omega arith), (z .tables, omega arith, omega arith))
 
 pub commit-ready : (s : Areas) (n t : ℕ) → Open s n → verdict (commitTests s n t) ≡ Accept →
-    Fits (s .received) (s .log) (s .counts) (commitOf t) × (HasTables (s .work) n × (0 < n) × (t < 32))
+    Fits (s .received) (s .log) (s .counts) (commitOf t) × (HasUndoing (s .work) n 0 × (0 < n) × (t < txnCount))
 commit-ready s n t o h =
     let f = commit-facts s n t h in
     let z = o .sized in
-    (open-fits s n (commitOf t) o (commit-sound n t (f .txn)) (f .room), (z .tables, omega arith, omega arith))
+    (open-fits s n (commitOf t) o (commit-sound n t (f .txn)) (f .room), ((z .top, omega arith), omega arith, f .txn))

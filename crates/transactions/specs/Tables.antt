@@ -6,11 +6,11 @@ use mathlib.Core.Bool.{not}
 use mathlib.Core.List.{List}
 use lib.Dec.{eqb}
 use native.Mathlib.Omega.{arith}
-use Rattle.words.specs.Spans.{over, over-outside}
+use Rattle.words.specs.Spans.{over, fill, over-outside}
 use Rattle.pages.specs.Geometry.{objectCount, root}
-use Rattle.areas.specs.Layout.{activeAt, phaseAt, readersAt, writersAt, unflushedAt, knownAt, prunedAt, createdAt, colourAt}
+use Rattle.areas.specs.Layout.{activeAt, phaseAt, readersAt, writersAt, unflushedAt, knownAt, prunedAt, createdAt, colourAt, markCount, markedAt, orderAt}
 use Rattle.areas.specs.Tables.{gain, lose, passRuns}
-use Rattle.calls.specs.Transactions.{leaves, knowsRoot, endedEntry, endedEntries, endedTables}
+use Rattle.calls.specs.Transactions.{leaves, knowsRoot, endedEntry, endedEntries, withoutMarks, endedTables}
 use Rattle.store_ops.specs.Tables.{over-join}
 
 -- the masks of known objects begin at a, that of the root stands at b
@@ -45,12 +45,18 @@ module _ (w : List ℕ) (n t : ℕ) where
       ∙ ap (λ (k : ℕ). over f (over f w (prunedAt n 1) k) (createdAt n 1) (objectCount n)) e
       ∙ joined f w (prunedAt n 1) (createdAt n 1) (colourAt n 1) (objectCount n) (omega arith) (omega arith)
 
+-- t's marks begin at a, their places in the order at b
+pub marks-ended : (w : List ℕ) (n t : ℕ) {v x : List ℕ} {a b : ℕ} → a ≡ markedAt n t 0 → b ≡ orderAt n t 0 →
+    v ≡ fill (λ m. 0) w a markCount → x ≡ fill (λ m. 0) v b markCount → x ≡ withoutMarks w n t
+unfolding withoutMarks
+marks-ended w n t ea eb hv hx = hx ∙ rw (hv, ea, eb)
+
 -- the masks begin at a, the entries at b, and end at d
-pub tables-ended : (w : List ℕ) (n t : ℕ) {v u x : List ℕ} {a b d : ℕ} → a ≡ readersAt n 0 → b ≡ prunedAt n 1 → d ≡ colourAt n 1 →
-    v ≡ lose w activeAt t → u ≡ leaves t v a (b - a) → x ≡ endedEntries t u b (d - b) → x ≡ endedTables w n t
+pub tables-ended : (w : List ℕ) (n t : ℕ) {v u x y : List ℕ} {a b d : ℕ} → a ≡ readersAt n 0 → b ≡ prunedAt n 1 → d ≡ colourAt n 1 →
+    v ≡ lose w activeAt t → u ≡ leaves t v a (b - a) → x ≡ endedEntries t u b (d - b) → y ≡ withoutMarks x n t → y ≡ endedTables w n t
 unfolding endedTables
-tables-ended w n t ea eb ed hv hu hx =
+tables-ended w n t ea eb ed hv hu hx hy =
     let l = lose w activeAt t in
-    hx ∙ rw (hu, hv, ea, eb, ed)
+    hy ∙ ap (λ (z : List ℕ). withoutMarks z n t) (hx ∙ rw (hu, hv, ea, eb, ed)
     (sym (ap (λ (y : List ℕ). endedEntries t (endedEntries t y (prunedAt n 1) (objectCount n)) (createdAt n 1) (objectCount n)) (masks l n t)
-    ∙ entries (leaves t l (readersAt n 0) (prunedAt n 1 - readersAt n 0)) n t))
+    ∙ entries (leaves t l (readersAt n 0) (prunedAt n 1 - readersAt n 0)) n t)))

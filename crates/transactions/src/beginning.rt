@@ -1,12 +1,12 @@
 ghost use mathlib.Core.Path.{_≡_};
 ghost use mathlib.Core.List.{List, []};
 ghost use Prim.Native.Nat.{ℕ, _<_};
-ghost use lib.ListN.{length};
+ghost use lib.ListN.{getD};
 ghost use Rattle.records.specs.Records.{beginOf};
 ghost use Rattle.areas.specs.declared.Answer.the-variants.{Done};
 ghost use Rattle.areas.specs.Answers.{verdict};
 ghost use Rattle.areas.specs.Areas.{areas, out};
-ghost use Rattle.areas.specs.Layout.{HasTables, activeAt};
+ghost use Rattle.areas.specs.Layout.{HasTables, HasUndoing, activeAt};
 ghost use Rattle.areas.specs.Tables as tables;
 ghost use Rattle.calls.specs.Transactions.{knowsRoot, beginTests, begun};
 ghost use Rattle.store_ops.specs.Logs.{Kept, Fits, counted};
@@ -18,10 +18,10 @@ use pages::SLOTS;
 use records::TXNS;
 
 // Refusals 3, 4 and 11 of a begin.
-pub fn begin_check(log: &[u32], counts: &[u32], work: &[u32], t: u32) -> Check
+pub fn begin_check(log: &[u32], counts: &[u32], work: &[u32], n: usize, t: u32) -> Check
     requires { ⌜ Kept (now log) (now counts) ⌝ }
-    requires { ⌜ activeAt < length (now work) ⌝ }
-    ensures { λ r. ⌜ r ≡ verdict (beginTests (areas [] [] [] (now (log .entry)) (now (counts .entry)) (now (work .entry))) t) ⌝ }
+    requires { ⌜ HasUndoing (now work) n (getD (now counts) 0 0) ⌝ }
+    ensures { λ r. ⌜ r ≡ verdict (beginTests (areas [] [] [] (now (log .entry)) (now (counts .entry)) (now (work .entry))) n t) ⌝ }
 {
     if TXNS <= t {
         return Check::Refuse(Refusal::OutOfRange);
@@ -29,7 +29,7 @@ pub fn begin_check(log: &[u32], counts: &[u32], work: &[u32], t: u32) -> Check
     if store_ops::has(work, layout::ACTIVE_AT, t) {
         return Check::Refuse(Refusal::WrongState);
     }
-    if store_ops::room_beyond(log, counts, work, store_ops::CHANGE_ROOM) {
+    if store_ops::room_beyond(log, counts, work, n, store_ops::CHANGE_ROOM) {
         Check::Accept
     } else {
         Check::Refuse(Refusal::LogFull)

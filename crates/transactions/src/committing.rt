@@ -2,11 +2,11 @@ ghost use mathlib.Core.Path.{_≡_};
 ghost use mathlib.Core.List.{List, []};
 ghost use Prim.Native.Nat.{ℕ, _<_};
 ghost use lib.ListN.{length};
-ghost use Rattle.records.specs.Records.{commitOf};
+ghost use Rattle.records.specs.Records.{txnCount, commitOf};
 ghost use Rattle.areas.specs.declared.Answer.the-variants.{Done};
 ghost use Rattle.areas.specs.Answers.{verdict};
 ghost use Rattle.areas.specs.Areas.{areas, out};
-ghost use Rattle.areas.specs.Layout.{HasTables};
+ghost use Rattle.areas.specs.Layout.{HasTables, HasUndoing};
 ghost use Rattle.calls.specs.Transactions.{allFlushed, commitTests, committed};
 ghost use Rattle.store_ops.specs.Logs.{Fits, counted};
 use super::ending::end_tables;
@@ -60,7 +60,7 @@ pub fn commit_apply(
     t: u32,
 ) -> u32
     requires { ⌜ Fits (now received) (now log) (now counts) (commitOf t) ⌝ }
-    requires { ⌜ HasTables (now work) n × (0 < n) × (t < 32) ⌝ }
+    requires { ⌜ HasUndoing (now work) n 0 × (0 < n) × (t < txnCount) ⌝ }
     ensures { λ x. ⌜ ((s c : List ℕ) → out (Done x) s c (now (received .exit)) (now (log .exit)) (now (counts .exit)) (now (work .exit)) ≡ counted (committed (areas s c (now (received .entry)) (now (log .entry)) (now (counts .entry)) (now (work .entry))) n t)) ⌝ }
 {
     let c = store_ops::append(received, log, counts, records::commit_of(t));

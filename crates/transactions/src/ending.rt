@@ -2,11 +2,11 @@ ghost use mathlib.Core.Path.{_≡_};
 ghost use mathlib.Core.List.{[]};
 ghost use Prim.Native.Nat.{_+_, _<_, _≤_};
 ghost use lib.ListN.{length};
-ghost use Rattle.records.specs.Records.{maxRecords};
+ghost use Rattle.records.specs.Records.{txnCount, maxRecords};
 ghost use Rattle.areas.specs.Areas.{areas};
-ghost use Rattle.areas.specs.Layout.{HasTables};
+ghost use Rattle.areas.specs.Layout.{HasUndoing};
 ghost use Rattle.calls.specs.Room.{roomWithin};
-ghost use Rattle.calls.specs.Transactions.{endedTables};
+ghost use Rattle.calls.specs.Transactions.{withoutMarks, endedTables};
 use areas::layout;
 use records::RECORD_WORDS;
 
@@ -18,10 +18,20 @@ pub fn room_within(log: &[u32], counts: &[u32], k: usize) -> bool
     counts[layout::RECEIVED] as usize + k <= log.len() / RECORD_WORDS
 }
 
+// t's marks end with it.
+fn end_marks(work: &mut [u32], n: usize, t: u32)
+    requires { ⌜ HasUndoing (now work) n 0 × (t < txnCount) ⌝ }
+    ensures { λ _. ⌜ now (work .exit) ≡ withoutMarks (now (work .entry)) n t ⌝ }
+{
+    let k = layout::MARKS as usize;
+    page_ops::areas::clear_words(work, layout::marked_at(n, t as usize, 0), k);
+    page_ops::areas::clear_words(work, layout::order_at(n, t as usize, 0), k);
+}
+
 // The tables once t has ended. The masks of readers, writers, unflushed records and known objects are one run, those of the PRT and
 // the COT another.
 pub fn end_tables(work: &mut [u32], n: usize, t: u32)
-    requires { ⌜ HasTables (now work) n × (0 < n) × (t < 32) ⌝ }
+    requires { ⌜ HasUndoing (now work) n 0 × (0 < n) × (t < txnCount) ⌝ }
     ensures { λ _. ⌜ now (work .exit) ≡ endedTables (now (work .entry)) n t ⌝ }
 {
     let masks = layout::readers_at(n, 0);
@@ -30,4 +40,5 @@ pub fn end_tables(work: &mut [u32], n: usize, t: u32)
     store_ops::lose(work, layout::ACTIVE_AT, t);
     store_ops::leave_all(work, masks, entries - masks, t);
     store_ops::end_entries(work, entries, end - entries, t);
+    end_marks(work, n, t);
 }

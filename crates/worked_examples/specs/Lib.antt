@@ -3,3 +3,4 @@ pub mod Table
 pub mod Numbers
 pub mod Chains
 pub mod Holders
+pub mod Marks

@@ -15,15 +15,16 @@ use Rattle.calls.specs.Stability.{forceTests, storeTests, emptyTests}
 use Rattle.calls.specs.Pass.{passTests, sweepTests, stepTests}
 use Rattle.calls.specs.Reopening.{reopenTests, restepTests}
 use Rattle.calls.specs.Chains.{chainTests}
+use Rattle.calls.specs.Marks.{markTests, backTests}
 
 -- the tests of every call, on any areas and with any arguments
-abbrev pub everyCall : Areas → ℕ → ℕ → ℕ → ℕ → ℕ → ℕ → List ℕ → List (List Test)
-everyCall s n t p o f v image =
+abbrev pub everyCall : Areas → ℕ → ℕ → ℕ → ℕ → ℕ → ℕ → ℕ → List ℕ → List (List Test)
+everyCall s n t m p o f v image =
     allTests true true s []
     ∷ formatTests s
-    ∷ beginTests s t
+    ∷ beginTests s n t
     ∷ commitTests s n t
-    ∷ abortTests s t
+    ∷ abortTests s n t
     ∷ lockReadTests s n t p
     ∷ lockWriteTests s n t p
     ∷ readTests s n t o
@@ -35,10 +36,12 @@ everyCall s n t p o f v image =
     ∷ emptyTests s
     ∷ passTests s
     ∷ stepTests s
-    ∷ sweepTests s v
+    ∷ sweepTests s n v
     ∷ reopenTests s
     ∷ restepTests s
     ∷ chainTests s n o
+    ∷ markTests s t m
+    ∷ backTests s n t m
     ∷ []
 
 -- each of several lists of tests has its refusals' numbers
@@ -46,6 +49,6 @@ unfoldable pub allNumbered : List (List Test) → Bool
 allNumbered [] = true
 allNumbered (ts ∷ rest) = numbered ts && allNumbered rest
 
-pub numbers-right : (s : Areas) (n t p o f v : ℕ) (image : List ℕ) → allNumbered (everyCall s n t p o f v image) ≡ true
-unfolding allNumbered numbered formatTests beginTests commitTests abortTests lockReadTests lockWriteTests readTests createTests setTests flushTests forceTests storeTests emptyTests passTests stepTests sweepTests reopenTests restepTests chainTests
-numbers-right s n t p o f v image = refl
+pub numbers-right : (s : Areas) (n t m p o f v : ℕ) (image : List ℕ) → allNumbered (everyCall s n t m p o f v image) ≡ true
+unfolding allNumbered numbered formatTests beginTests commitTests abortTests lockReadTests lockWriteTests readTests createTests setTests flushTests forceTests storeTests emptyTests passTests stepTests sweepTests reopenTests restepTests chainTests markTests backTests
+numbers-right s n t m p o f v image = refl

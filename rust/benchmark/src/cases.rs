@@ -103,7 +103,8 @@ pub fn cases(size: Size, fill: Fill) -> Vec<Case> {
 }
 
 fn add(list: &mut Vec<Case>, name: &'static str, number: u32, store: &Store, call: Call) {
-    list.push(Case { name, number, call, image: Vec::new(), areas: store.clone().back(), floor: Floor::All });
+    let areas = store.clone().into_areas();
+    list.push(Case { name, number, call, image: Vec::new(), areas, floor: Floor::All });
 }
 
 /// Accepted in one state, refused with `number` in another, and refused with 1 where the accepting
@@ -151,7 +152,15 @@ fn transactions(base: &Base, list: &mut Vec<Case>) {
     let abort = Call::Abort(ACTOR);
     let undone = changing(base);
     add_three(list, "abort", (&undone, abort), 4, (&base.quiet, abort));
+    let mark = Call::Mark(ACTOR, UNSET);
+    add_three(list, "mark", (&undone, mark), 4, (&base.quiet, mark));
+    let back = |mark| Call::Back(ACTOR, mark);
+    add_three(list, "back", (&undone, back(AT_BEGIN)), 16, (&undone, back(UNSET)));
 }
+
+/// Marks of the actor: one set before its changes, and one that is not set.
+const AT_BEGIN: u32 = 0;
+const UNSET: u32 = 1;
 
 /// The actor has made half of the records in the log: with what it reserves, the log is then as full
 /// as calls make it.
@@ -164,7 +173,9 @@ fn changing(base: &Base) -> Store {
     };
     let mut store = populated(base.size);
     fill_log(&mut store, others);
-    act(&mut store);
+    accept(store.begin(ACTOR));
+    accept(store.mark(ACTOR, AT_BEGIN));
+    change(&mut store);
     walk(&mut store, ACTOR, own - ACTOR_RECORDS, &mut Random::new(3));
     flush_all(&mut store, ACTOR);
     store

@@ -82,7 +82,7 @@ fn chain(
         number: 0,
         call: Call::Chain(object),
         image: Vec::new(),
-        areas: store.back(),
+        areas: store.into_areas(),
         floor: Floor::Search(plain),
     };
     Chain { graph, objects, times: measure(&case, clock, budget) }

@@ -6,14 +6,17 @@ use crate::cases::{cases, Case};
 use crate::states::{Fill, Size};
 use crate::timing::{measure, Times};
 
-/// Calls by name and answer: the check alone, changes, ends, stores, a pass, a reopening, a chain.
-const CALLS: [(&str, u32); 13] = [
+/// Calls by name and answer: the check alone, changes, ends, a mark and the way back, stores, a pass, a reopening,
+/// a chain.
+const CALLS: [(&str, u32); 15] = [
     ("lock_read", 4),
     ("begin", 0),
     ("set_word", 0),
     ("set_word (old begin)", 0),
     ("commit", 0),
     ("abort", 0),
+    ("mark", 0),
+    ("back", 0),
     ("store_page", 0),
     ("empty_log", 0),
     ("start_pass", 0),

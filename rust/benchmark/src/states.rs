@@ -192,6 +192,11 @@ pub fn free_object(store: &Store) -> u32 {
 /// The actor's begin, write lock of page 0, and a create and a set of a reference to it there.
 pub fn act(store: &mut Store) {
     accept(store.begin(ACTOR));
+    change(store);
+}
+
+/// .. after its begin.
+pub fn change(store: &mut Store) {
     accept(store.lock_write(ACTOR, 0));
     accept(store.read(&mut [0; OBJECT_WORDS], ACTOR, ROOT));
     let object = free_object(store);

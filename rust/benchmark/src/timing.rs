@@ -57,7 +57,7 @@ fn sample<S: Server>(case: &Case, mut areas: Areas, least: &mut f64) -> Areas {
     let lent = Lent { buffer: black_box(&mut buffer), image: black_box(&case.image) };
     black_box(side.perform(black_box(case.call), lent));
     *least = least.min(started.elapsed().as_nanos() as f64);
-    side.back()
+    side.into_areas()
 }
 
 fn floor(case: &Case, areas: &mut Areas) -> f64 {
@@ -102,7 +102,7 @@ fn made<S: Server>(case: &Case) -> (u64, Vec<u32>, Areas) {
     let mut side = unsafe { S::over(case.areas.clone()) };
     let mut buffer = vec![1; case.call.buffer_words()];
     let answer = side.perform(case.call, Lent { buffer: &mut buffer, image: &case.image });
-    (answer, buffer, side.back())
+    (answer, buffer, side.into_areas())
 }
 
 /// What reading the clock twice takes.

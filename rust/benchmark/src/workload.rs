@@ -96,7 +96,7 @@ pub type Shares = [f64; 6];
 impl<S: Server> Depot<S> {
     pub fn new(plan: Plan, disk: Option<Disk>) -> Depot<S> {
         // SAFETY: calls lead to the directory's words, and nothing but calls is done to them here.
-        let side = unsafe { S::over(directory(plan).back()) };
+        let side = unsafe { S::over(directory(plan).into_areas()) };
         let dirty = vec![false; plan.size.pages];
         Depot {
             side,

@@ -16,7 +16,7 @@ pub trait Server {
     unsafe fn over(areas: Areas) -> Self
     where
         Self: Sized;
-    fn back(self) -> Areas
+    fn into_areas(self) -> Areas
     where
         Self: Sized;
 
@@ -36,7 +36,7 @@ impl Server for Model {
         Model { areas, fault: Fault::None }
     }
 
-    fn back(self) -> Areas {
+    fn into_areas(self) -> Areas {
         self.areas
     }
 
@@ -65,7 +65,7 @@ impl Server for Store {
         Store { stored, copies, received, log, counts, work }
     }
 
-    fn back(self) -> Areas {
+    fn into_areas(self) -> Areas {
         let Store { stored, copies, received, log, counts, work } = self;
         Areas { stored, copies, received, log, counts, work }
     }
@@ -109,8 +109,8 @@ impl Server for Held {
         Held::assume(Store::over(areas))
     }
 
-    fn back(self) -> Areas {
-        self.into_store().back()
+    fn into_areas(self) -> Areas {
+        self.into_store().into_areas()
     }
 
     fn perform(&mut self, call: Call, lent: Lent) -> u64 {

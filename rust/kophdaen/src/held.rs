@@ -138,6 +138,18 @@ impl Held {
         lend!(self.store, kophdaen_held_abort, t)
     }
 
+    /// Sets one of t's marks, 0 to 3, or sets it again. Marks end with t.
+    pub fn mark(&mut self, t: u32, mark: u32) -> Answer {
+        lend!(self.store, kophdaen_held_mark, t, mark)
+    }
+
+    /// Goes back to a mark of t: its creates and sets since then are undone, newest first. The pages
+    /// touched need flushing again, and marks set after this one are dropped. Refused with 16 where the
+    /// mark is not set.
+    pub fn back(&mut self, t: u32, mark: u32) -> Answer {
+        lend!(self.store, kophdaen_held_back, t, mark)
+    }
+
     /// A lock for reading. Where it is refused with 6, [`Answer::holder`] tells whom to call.
     pub fn lock_read(&mut self, t: u32, page: u32) -> Answer {
         lend!(self.store, kophdaen_held_lock_read, t, page)

@@ -25,6 +25,8 @@ declare! {
     kophdaen_begin(t: u32);
     kophdaen_commit(t: u32);
     kophdaen_abort(t: u32);
+    kophdaen_mark(t: u32, mark: u32);
+    kophdaen_back(t: u32, mark: u32);
     kophdaen_lock_read(t: u32, page: u32);
     kophdaen_lock_write(t: u32, page: u32);
     kophdaen_read(buffer: *mut u32, buffer_words: usize, t: u32, object: u32);
@@ -43,6 +45,8 @@ declare! {
     kophdaen_held_begin(t: u32);
     kophdaen_held_commit(t: u32);
     kophdaen_held_abort(t: u32);
+    kophdaen_held_mark(t: u32, mark: u32);
+    kophdaen_held_back(t: u32, mark: u32);
     kophdaen_held_lock_read(t: u32, page: u32);
     kophdaen_held_lock_write(t: u32, page: u32);
     kophdaen_held_read(buffer: *mut u32, buffer_words: usize, t: u32, object: u32);

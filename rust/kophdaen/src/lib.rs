@@ -45,8 +45,8 @@ pub const RECORD_WORDS: usize = 6;
 pub const COUNTS_WORDS: usize = 2;
 
 /// Words of the working tables.
-pub fn work_words(pages: usize) -> usize {
-    6 + 67 * pages
+pub fn work_words(pages: usize, records: usize) -> usize {
+    134 + 67 * pages + records
 }
 
 mod held;

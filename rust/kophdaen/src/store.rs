@@ -22,7 +22,7 @@ impl Store {
             received: vec![0; PAGE_WORDS * pages],
             log: vec![0; RECORD_WORDS * records],
             counts: vec![0; COUNTS_WORDS],
-            work: vec![0; work_words(pages)],
+            work: vec![0; work_words(pages, records)],
         }
     }
 
@@ -40,6 +40,18 @@ impl Store {
 
     pub fn abort(&mut self, t: u32) -> Answer {
         lend!(self, kophdaen_abort, t)
+    }
+
+    /// Sets one of t's marks, 0 to 3, or sets it again. Marks end with t.
+    pub fn mark(&mut self, t: u32, mark: u32) -> Answer {
+        lend!(self, kophdaen_mark, t, mark)
+    }
+
+    /// Goes back to a mark of t: its creates and sets since then are undone, newest first. The pages
+    /// touched need flushing again, and marks set after this one are dropped. Refused with 16 where the
+    /// mark is not set.
+    pub fn back(&mut self, t: u32, mark: u32) -> Answer {
+        lend!(self, kophdaen_back, t, mark)
     }
 
     /// A lock for reading. Where it is refused with 6, [`Answer::holder`] tells whom to call.

@@ -20,6 +20,11 @@ pub const PASS_STEP: usize = 4;
 pub const ACTIVE: usize = 5;
 const SINGLES: usize = 6;
 
+/// "A transaction may set marks 0 to 3" (document 02, L3).
+pub const MARKS: u32 = 4;
+/// Words of a table by mark: one for each mark of each transaction.
+const MARK_WORDS: usize = 16 * MARKS as usize;
+
 /// Bit 16 of a PRT or COT word: entries of ended transactions.
 pub const FLAG: u32 = 1 << 16;
 
@@ -40,9 +45,15 @@ pub enum Table {
     Pruned,
     Created,
     Colours,
+    /// By mark: the changes that were left where it was set.
+    LeftAtMarks,
+    /// By mark: 0 where it is not set, else its place in the order of setting, from 1.
+    MarkOrder,
+    /// By log record: 1 where going back appended it.
+    Undoing,
 }
 
-pub const TABLES: [Table; 7] = [
+pub const TABLES: [Table; 10] = [
     Table::Readers,
     Table::Writers,
     Table::Unflushed,
@@ -50,34 +61,56 @@ pub const TABLES: [Table; 7] = [
     Table::Pruned,
     Table::Created,
     Table::Colours,
+    Table::LeftAtMarks,
+    Table::MarkOrder,
+    Table::Undoing,
 ];
 
 impl Table {
     pub fn first(self, pages: usize) -> usize {
-        SINGLES
-            + pages
-                * match self {
-                    Table::Readers => 0,
-                    Table::Writers => 1,
-                    Table::Unflushed => 2,
-                    Table::Known => 3,
-                    Table::Pruned => 19,
-                    Table::Created => 35,
-                    Table::Colours => 51,
-                }
+        let before = match self {
+            Table::Readers => 0,
+            Table::Writers => 1,
+            Table::Unflushed => 2,
+            Table::Known => 3,
+            Table::Pruned => 19,
+            Table::Created => 35,
+            Table::Colours => 51,
+            Table::LeftAtMarks | Table::MarkOrder | Table::Undoing => 67,
+        };
+        let marks = match self {
+            Table::MarkOrder => MARK_WORDS,
+            Table::Undoing => 2 * MARK_WORDS,
+            _ => 0,
+        };
+        SINGLES + before * pages + marks
     }
 
-    pub fn len(self, pages: usize) -> usize {
+    pub fn len(self, pages: usize, records: usize) -> usize {
         match self {
             Table::Readers | Table::Writers | Table::Unflushed => pages,
+            Table::LeftAtMarks | Table::MarkOrder => MARK_WORDS,
+            Table::Undoing => records,
             _ => SLOTS * pages,
         }
     }
 
-    pub fn largest(self) -> u32 {
+    /// Where its words stand in the working tables.
+    pub fn range(self, pages: usize, records: usize) -> std::ops::Range<usize> {
+        let first = self.first(pages);
+        first..first + self.len(pages, records)
+    }
+
+    pub fn largest(self, records: usize) -> u32 {
         match self {
             Table::Pruned | Table::Created => 131071,
             Table::Colours => BLACK,
+            // what calls lead to: a begin takes two records of L, each change two more, and without
+            // a change nothing is undone
+            Table::LeftAtMarks => (records as u32).saturating_sub(2) / 2,
+            Table::MarkOrder if records == 1 => 0,
+            Table::MarkOrder => MARKS,
+            Table::Undoing => u32::from(records >= 4),
             _ => 65535,
         }
     }
@@ -96,8 +129,13 @@ pub fn largest_single(word: usize, pages: usize) -> u32 {
     }
 }
 
-pub fn work_words(pages: usize) -> usize {
-    SINGLES + 67 * pages
+pub fn work_words(pages: usize, records: usize) -> usize {
+    Table::Undoing.first(pages) + records
+}
+
+/// Where a mark of t stands in a table by mark.
+pub fn mark_at(t: u32, mark: u32) -> usize {
+    (MARKS * t + mark) as usize
 }
 
 /// "A reference is 0 (nothing) or 1 + 16 x page + slot".
@@ -159,7 +197,7 @@ impl Areas {
             received: vec![0; PAGE_WORDS * pages],
             log: vec![0; RECORD_WORDS * records],
             counts: vec![0; 2],
-            work: vec![0; work_words(pages)],
+            work: vec![0; work_words(pages, records)],
         }
     }
 
@@ -197,13 +235,18 @@ impl Areas {
             && self.copies.len() == self.stored.len()
             && self.received.len() == self.stored.len()
             && self.counts.len() == 2
-            && self.work.len() == work_words(pages);
+            && self.work.len() == work_words(pages, records);
         same.then_some((pages, records))
     }
 
     /// Pages by the stored area's length; meant for areas whose lengths are right.
     pub fn pages(&self) -> usize {
         self.stored.len() / PAGE_WORDS
+    }
+
+    /// Records by the log's length, likewise.
+    pub fn records(&self) -> usize {
+        self.log.len() / RECORD_WORDS
     }
 
     pub fn objects(&self) -> u32 {
@@ -228,9 +271,8 @@ impl Areas {
     }
 
     pub fn table(&mut self, table: Table) -> &mut [u32] {
-        let pages = self.pages();
-        let first = table.first(pages);
-        &mut self.work[first..first + table.len(pages)]
+        let range = table.range(self.pages(), self.records());
+        &mut self.work[range]
     }
 
     pub fn page_table(&mut self, table: Table, page: usize) -> &mut u32 {

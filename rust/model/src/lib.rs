@@ -1,5 +1,5 @@
-//! Document 01's page server and collector, and document 02's L1 and L2, over the same lent words
-//! as the proved library.
+//! Document 01's page server and collector, and document 02's L1, L2 and L3, over the same lent
+//! words as the proved library.
 //!
 //! Written from documents 01 and 02, docs/LAYOUT.md and docs/DECISIONS.md, not from the library's source.
 //! Each call tests its refusals in the order of the refusal table, then acts; `?` leaves the call
@@ -9,6 +9,7 @@ mod chain;
 pub mod faults;
 mod holder;
 pub mod layout;
+mod marks;
 pub mod recover;
 pub mod sound;
 mod whole;
@@ -134,47 +135,35 @@ impl Model {
 
     /// Refusal 11: `need` records beyond used and reserved.
     fn room(&self, need: usize) -> Result<(), u32> {
-        let records = self.areas.log.len() / RECORD_WORDS;
-        refuse(11, self.areas.received_count() + self.reserved() + need > records)
+        refuse(11, self.areas.received_count() + self.reserved() + need > self.areas.records())
     }
 
     // ---- the log --------------------------------------------------------------------------
 
     /// "each active transaction reserves 1 record plus 1 for each of its creates and sets"
     fn reserved(&self) -> usize {
-        let mut changes = [0usize; 16];
-        let mut begun = [false; 16];
-        for i in 0..self.areas.received_count() {
-            let [kind, t, ..] = self.areas.record(i);
-            let t = t as usize % 16;
-            match kind {
-                1 if !self.has(Fault::ReserveOfEarlierBegins) => (begun[t], changes[t]) = (true, 0),
-                1 => begun[t] = true,
-                3 if self.has(Fault::SetsReserveNothing) => {}
-                2 | 3 if begun[t] => changes[t] += 1,
-                _ => {}
-            }
-        }
-        (0..16).filter(|&t| self.active(t as u32)).map(|t| 1 + changes[t]).sum()
+        (0..16).filter(|&t| self.active(t)).map(|t| 1 + self.changes_reserved(t)).sum()
     }
 
-    /// The creates and sets of t, in log order: "Its records are those after its last begin in the
-    /// received log; without one it has none."
-    fn changes_of(&self, t: u32) -> Vec<[u32; 6]> {
-        let log: Vec<[u32; 6]> = (0..self.areas.received_count()).map(|i| self.areas.record(i)).collect();
-        let begin = match log.iter().rposition(|r| r[0] == 1 && r[1] == t) {
-            Some(begin) => begin,
-            None if self.has(Fault::ChangesWithoutBegin) => 0,
-            None => return Vec::new(),
-        };
-        let of_t = |r: &&[u32; 6]| (r[0] == 2 || r[0] == 3) && r[1] == t;
-        log[begin..].iter().filter(of_t).copied().collect()
+    /// The undoing record of a create or set: a function of the record alone (DECISIONS 23).
+    fn undoing_record(&self, [kind, t, object, field, old, new]: [u32; 6]) -> [u32; 6] {
+        match kind {
+            2 => [6, t, object, 0, 0, 0],
+            _ if self.has(Fault::UndoingTakesOldFromPage) => {
+                let shown = self.areas.received[word_at(object, field as usize)];
+                [3, t, object, field, shown, old]
+            }
+            _ => [3, t, object, field, new, old],
+        }
     }
 
     fn append(&mut self, record: [u32; 6]) {
         let i = self.areas.received_count();
         self.areas.log[RECORD_WORDS * i..][..RECORD_WORDS].copy_from_slice(&record);
         self.areas.counts[RECEIVED_COUNT] += 1;
+        if self.has(Fault::AppendClearsUndoing) {
+            self.areas.table(Table::Undoing)[i] = 0;
+        }
     }
 
     /// A record is received: it stands in the log and "received pages show the effect of every
@@ -234,6 +223,9 @@ impl Model {
             clear_bit(self.areas.table(Table::Known), t);
         }
         *self.areas.object_table(Table::Known, ROOT) |= bit(t);
+        if self.has(Fault::BeginDropsMarks) {
+            self.end_marks(t);
+        }
         Ok(self.received_count())
     }
 
@@ -244,7 +236,7 @@ impl Model {
         // "Commit: refused while a page has records of t not flushed."
         let unflushed = self.areas.table(Table::Unflushed).iter().any(|w| w & bit(t) != 0);
         refuse(10, unflushed && !self.has(Fault::CommitsUnflushed))?;
-        refuse(11, self.areas.received_count() + 1 > self.areas.log.len() / RECORD_WORDS)?;
+        refuse(11, self.areas.received_count() + 1 > self.areas.records())?;
         if self.has(Fault::CommitRoomByReserve) {
             self.room(0)?;
         }
@@ -255,26 +247,25 @@ impl Model {
     }
 
     /// "Abort: appends, newest first, the undoing record of each create and set of t, then kind 5;
-    /// copies of t's write-locked pages become the received pages. It adds nothing to the PRT."
+    /// copies of t's write-locked pages become the received pages. It adds nothing to the PRT." Of
+    /// records not undone "an abort undoes only those" (document 02, L3).
     pub fn abort(&mut self, t: u32) -> Answer {
         self.ready()?;
         self.transaction(t)?;
         self.must_be_active(t)?;
-        let mut changes = self.changes_of(t);
-        let records = self.areas.log.len() / RECORD_WORDS;
-        refuse(11, self.areas.received_count() + changes.len() + 1 > records)?;
+        let mut changes = self.changes_unless(Fault::AbortUndoesAgain, t);
+        refuse(11, self.areas.received_count() + changes.len() + 1 > self.areas.records())?;
 
         if !self.has(Fault::AbortsOldestFirst) {
             changes.reverse();
         }
-        for [kind, _, object, field, old, mut new] in changes {
-            if self.has(Fault::UndoingTakesOldFromPage) && kind == 3 {
-                new = self.areas.received[word_at(object, field as usize)];
+        for change in changes {
+            let i = self.areas.received_count();
+            self.receive(self.undoing_record(change));
+            if self.has(Fault::AbortNotesUndoing) {
+                self.areas.table(Table::Undoing)[i] = 1;
             }
-            self.receive(match kind {
-                2 => [6, t, object, 0, 0, 0],
-                _ => [3, t, object, field, new, old],
-            });
+            let [kind, _, _, field, old, new] = change;
             if self.has(Fault::AbortAddsToPrt) && kind == 3 && field < 4 && new != 0 && new != old {
                 *self.areas.object_table(Table::Pruned, new) |= bit(t);
             }
@@ -306,6 +297,7 @@ impl Model {
         for table in cleared {
             clear_bit(self.areas.table(table), t);
         }
+        self.end_marks(t);
         for table in [Table::Pruned, Table::Created] {
             let dropped = committed
                 && match table {
@@ -546,6 +538,10 @@ impl Model {
         let unlike = a.copies != a.stored && self.fault != Fault::EmptiesUnstored;
         refuse(13, a.work[ACTIVE] != 0 || a.received_count() != a.stable_count() || unlike)?;
         a.counts.fill(0);
+        // numbers of records begin again, and so does what is noted of them (DECISIONS 73)
+        if self.fault != Fault::EmptyKeepsUndoing {
+            a.table(Table::Undoing).fill(0);
+        }
         if self.fault == Fault::EmptyClearsLogWords {
             a.log.fill(0);
         }
@@ -767,18 +763,25 @@ impl Model {
             }
             a.work[REOPENING_PAGE] += 1;
             if self.fault == Fault::ReopenEndsAtLastPage && page == pages - 1 {
-                a.counts.fill(0);
-                a.work[REOPENING] = 2;
-                a.work[REOPENING_PAGE] = 0;
+                self.finish_reopening();
             }
             Ok(page as u32)
         } else {
-            a.counts.fill(0);
-            a.work[REOPENING] = 2;
-            if self.fault != Fault::ReopeningPageStays {
-                a.work[REOPENING_PAGE] = 0;
-            }
+            self.finish_reopening();
             Ok(pages as u32)
+        }
+    }
+
+    /// "one more step empties the log"
+    fn finish_reopening(&mut self) {
+        let a = &mut self.areas;
+        a.counts.fill(0);
+        if self.fault != Fault::ReopeningKeepsUndoing {
+            a.table(Table::Undoing).fill(0);
+        }
+        a.work[REOPENING] = 2;
+        if self.fault != Fault::ReopeningPageStays {
+            a.work[REOPENING_PAGE] = 0;
         }
     }
 

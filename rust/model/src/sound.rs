@@ -66,10 +66,8 @@ pub fn in_range(a: &Areas, pages: usize, records: usize, fault: Fault) -> bool {
         (fault == Fault::StepNumberUnbounded && word == PASS_STEP) || a.work[word] <= largest_single(word, pages)
     });
     let tables = TABLES.iter().all(|&table| {
-        let largest =
-            if fault == Fault::FlagBitOutOfRange && table == Table::Pruned { 65535 } else { table.largest() };
-        (fault == Fault::ColoursUnchecked && table == Table::Colours)
-            || a.work[table.first(pages)..][..table.len(pages)].iter().all(|&w| w <= largest)
+        let largest = largest_taken(table, records, fault);
+        a.work[table.range(pages, records)].iter().all(|&w| w <= largest)
     });
     let counts = a.received_count() <= records && a.stable_count() <= a.received_count();
     singles
@@ -79,4 +77,17 @@ pub fn in_range(a: &Areas, pages: usize, records: usize, fault: Fault) -> bool {
         && (fault == Fault::CopiesUnchecked || pages_sound(&a.copies, pages))
         && (fault == Fault::RecordsUnchecked
             || (0..a.received_count()).all(|i| record_sound(a.record(i), pages, fault)))
+}
+
+/// The largest value of a table's words.
+fn largest_taken(table: Table, records: usize, fault: Fault) -> u32 {
+    match (fault, table) {
+        (Fault::FlagBitOutOfRange, Table::Pruned) => 65535,
+        (Fault::ColoursUnchecked, Table::Colours) => u32::MAX,
+        (Fault::MarkCountsToRecords, Table::LeftAtMarks) => records as u32,
+        (Fault::MarkOrderToFive, Table::MarkOrder) => MARKS + 1,
+        (Fault::MarkOrderOfOneRecord, Table::MarkOrder) => MARKS,
+        (Fault::UndoingOfFewRecords, Table::Undoing) => 1,
+        _ => table.largest(records),
+    }
 }

@@ -125,6 +125,8 @@ pub enum Filling {
     Linked,
     /// As `Sound`, with locks of several transactions on a page, together as no calls grant them.
     Contended,
+    /// As `Sound`, with many changes of a few transactions, undone or not, and marks in any order.
+    Marked,
     /// Sound stored pages and a stable log in order, for reopening; the rest as `Noise`.
     Reopening,
     /// As `Reopening`, with one word of the log or the stored pages damaged.
@@ -184,27 +186,11 @@ impl fmt::Display for List {
 }
 
 /// Where a word of an area stands, in words.
-pub fn place(area: Area, index: usize, pages: usize) -> String {
+pub fn place(area: Area, index: usize, pages: usize, records: usize) -> String {
     match area {
         Area::Log => format!("log record {} word {}", index / RECORD_WORDS, index % RECORD_WORDS),
         Area::Counts => ["received count", "stable count", "a third count"][index.min(2)].to_string(),
-        Area::Work => {
-            let singles = ["reopening word", "reopening page", "pass phase", "pass page", "pass step", "active"];
-            if index < singles.len() {
-                return singles[index].to_string();
-            }
-            for table in TABLES {
-                let (first, len) = (table.first(pages), table.len(pages));
-                if (first..first + len).contains(&index) {
-                    let at = index - first;
-                    return match len == pages && !matches!(table, Table::Known) {
-                        true => format!("{table:?} of page {at}"),
-                        false => format!("{table:?} of object {}", at + 1),
-                    };
-                }
-            }
-            format!("working word {index}")
-        }
+        Area::Work => working_place(index, pages, records),
         _ => {
             let (page, word) = (index / PAGE_WORDS, index % PAGE_WORDS);
             match word {
@@ -216,5 +202,24 @@ pub fn place(area: Area, index: usize, pages: usize) -> String {
                 ),
             }
         }
+    }
+}
+
+fn working_place(index: usize, pages: usize, records: usize) -> String {
+    let singles = ["reopening word", "reopening page", "pass phase", "pass page", "pass step", "active"];
+    if index < singles.len() {
+        return singles[index].to_string();
+    }
+    let has_it = |table: &Table| table.range(pages, records).contains(&index);
+    let Some(table) = TABLES.into_iter().find(has_it) else { return format!("working word {index}") };
+    let at = index - table.first(pages);
+    match table {
+        Table::Readers | Table::Writers | Table::Unflushed => format!("{table:?} of page {at}"),
+        Table::LeftAtMarks | Table::MarkOrder => {
+            let marks = MARKS as usize;
+            format!("{table:?} of transaction {} mark {}", at / marks, at % marks)
+        }
+        Table::Undoing => format!("{table:?} of log record {at}"),
+        _ => format!("{table:?} of object {}", at + 1),
     }
 }

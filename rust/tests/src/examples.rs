@@ -1,5 +1,5 @@
 //! Document 01's fourteen examples of the refusal table, its bench input and its cases on L, each
-//! with the answers that the document gives; and the examples of chains and of holders.
+//! with the answers that the document gives; and the examples of chains, of holders and of marks.
 
 use calls::Call::*;
 use model::layout::*;
@@ -7,17 +7,27 @@ use model::layout::*;
 use crate::actions::*;
 use crate::chains;
 use crate::holders;
+use crate::marks;
 use crate::run::*;
 use crate::sides::Kind;
 
 /// An action with its answer, number and value (0,0 for a poke or a cut), and, where the example tells it, every word
-/// of the buffer after it.
+/// of the buffer after it, and words of the areas, from one of them on.
 #[derive(Clone)]
 pub struct Step {
     pub action: Action,
     pub number: u32,
     pub value: u32,
     pub buffer: Option<Vec<u32>>,
+    pub words: Vec<(Area, usize, Vec<u32>)>,
+}
+
+impl Step {
+    /// .. after which these words stand there.
+    pub fn leaves(mut self, area: Area, from: usize, words: &[u32]) -> Step {
+        self.words.push((area, from, words.to_vec()));
+        self
+    }
 }
 
 /// Steps from a formatted store on.
@@ -33,7 +43,7 @@ fn example(name: &'static str, records: usize, steps: &[Step]) -> Example {
 }
 
 fn step(action: Action, number: u32, value: u32) -> Step {
-    Step { action, number, value, buffer: None }
+    Step { action, number, value, buffer: None, words: Vec::new() }
 }
 
 pub fn ok(call: impl Into<Request>, value: u32) -> Step {
@@ -117,21 +127,26 @@ fn bench() -> Example {
 }
 
 /// Makes a step on both sides: what went wrong.
-fn made(pair: &mut Pair, Step { action, number, value, buffer }: &Step) -> Result<(), String> {
+fn made(pair: &mut Pair, Step { action, number, value, buffer, words }: &Step) -> Result<(), String> {
     let answer = pair.step(action)?;
     if answer != u64::from(*number) << 32 | u64::from(*value) {
         return Err(format!("answers {},{}", answer >> 32, answer as u32));
     }
-    match buffer {
-        Some(words) if *words != pair.buffer => Err("another buffer than the example's".to_string()),
-        _ => Ok(()),
+    if buffer.as_ref().is_some_and(|buffer| *buffer != pair.buffer) {
+        return Err("another buffer than the example's".to_string());
+    }
+    let stands =
+        |(area, from, words): &&(Area, usize, Vec<u32>)| pair.left.area(*area)[*from..].starts_with(words);
+    match words.iter().find(|place| !stands(place)) {
+        Some((area, from, _)) => Err(format!("other words than the example's from {area:?} {from} on")),
+        None => Ok(()),
     }
 }
 
 /// Runs every example on both sides: how many calls, or what went wrong.
 pub fn run(left: Kind, right: Kind) -> Result<u64, String> {
     let mut calls = 0;
-    let examples = [refusals(), room(), vec![bench()], chains::examples(), holders::examples()];
+    let examples = [refusals(), room(), vec![bench()], chains::examples(), holders::examples(), marks::examples()];
     for Example { name, pages, records, steps } in examples.into_iter().flatten() {
         let mut pair = Pair::new(left, right, pages, records);
         for step in [ok(Format, 0)].iter().chain(&steps) {

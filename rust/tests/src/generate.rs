@@ -19,10 +19,19 @@ pub struct Style {
     pub wild: usize,
     /// Transactions that run side by side, about.
     pub crowd: usize,
-    /// Most calls create objects and link them, so that chains grow.
-    pub building: bool,
+    pub habit: Habit,
     /// The list begins with areas so filled, and again now and then.
     pub filling: Option<Filling>,
+}
+
+/// What most calls of a list's transactions do.
+#[derive(Clone, Copy, Debug, PartialEq)]
+pub enum Habit {
+    Mixed,
+    /// Create objects and link them, so that chains grow.
+    Building,
+    /// Set marks, change, go back and change again, and seldom end.
+    Trying,
 }
 
 pub struct Generator {
@@ -79,7 +88,8 @@ impl Generator {
             return self.resized(a, request);
         }
         if let Some(filling) = self.style.filling {
-            let every = if matches!(filling, Filling::Sound | Filling::Linked) { 12 } else { 4 };
+            let long = matches!(filling, Filling::Sound | Filling::Linked | Filling::Marked);
+            let every = if long { 12 } else { 4 };
             if self.asking.is_empty() && self.random.below(every) == 0 {
                 return self.fill(filling, a);
             }
@@ -128,7 +138,7 @@ impl Generator {
 
     /// One damaged word, in any area and any working table.
     fn damage(&mut self, a: &Areas) -> Action {
-        let pages = a.pages();
+        let (pages, records) = (a.pages(), a.records());
         let r = &mut self.random;
         let area = AREAS[r.weighted(&[10, 11, 11, 15, 8, 45])];
         let index = match area {
@@ -136,11 +146,11 @@ impl Generator {
                 single if single <= ACTIVE => single,
                 table => {
                     let table = TABLES[table - ACTIVE - 1];
-                    table.first(pages) + r.below(table.len(pages))
+                    table.first(pages) + r.below(table.len(pages, records))
                 }
             },
             Area::Log => {
-                let near = (a.received_count() + 1).min(a.log.len() / RECORD_WORDS);
+                let near = (a.received_count() + 1).min(records);
                 r.below(RECORD_WORDS * near)
             }
             Area::Counts => r.below(2),
@@ -151,7 +161,7 @@ impl Generator {
             }
         };
         let old = a.of(area)[index];
-        let value = match (area, bound(area, index, pages)) {
+        let value = match (area, bound(area, index, pages, records)) {
             (Area::Work, Some(largest)) if r.percent(25) => largest + 1,
             (Area::Work, Some(largest)) if r.percent(35) => r.below(largest as usize + 1) as u32,
             _ => odd_word(old, pages, r),
@@ -202,11 +212,7 @@ impl Generator {
     fn wild(&mut self, a: &Areas) -> Request {
         let pages = a.pages();
         let r = &mut self.random;
-        let number = |r: &mut Random, n: usize| match r.below(12) {
-            0 => n as u32,
-            1 => odd_word(n as u32, pages, r),
-            _ => r.below(n) as u32,
-        };
+        let number = |r: &mut Random, n: usize| about(n, pages, r);
         let few = r.percent(50);
         let t = number(r, if few { 3 } else { 16 });
         let page = number(r, pages);
@@ -216,7 +222,8 @@ impl Generator {
             0 => odd_word(0, pages, r),
             _ => number(r, SLOTS * pages + 1),
         };
-        let call = match r.below(36) {
+        let mark = number(r, MARKS as usize);
+        let call = match r.below(40) {
             0 if r.percent(10) => Call::Format,
             0..=2 => Call::Begin(t),
             3 | 4 => Call::Commit(t),
@@ -234,6 +241,8 @@ impl Generator {
             28..=30 => Call::PassStep,
             31 if r.percent(20) => Call::Reopen,
             31..=33 => Call::ReopenStep,
+            34 | 35 => Call::Mark(t, mark),
+            36 | 37 => Call::Back(t, mark),
             _ => return chain(object, r),
         };
         call.into()
@@ -241,14 +250,15 @@ impl Generator {
 
     /// A call that the state takes, mostly.
     fn led(&mut self, a: &Areas) -> Request {
-        let records = a.log.len() / RECORD_WORDS;
         let active: Vec<u32> = (0..16).filter(|&t| a.work[ACTIVE] & bit(t) != 0).collect();
-        let room = records as isize - a.received_count() as isize - reserved(a) as isize;
-        if room < 2 && self.random.percent(60) {
+        let room = a.records() as isize - a.received_count() as isize - reserved(a) as isize;
+        // one that tries goes back in a full log too
+        let drained = if self.style.habit == Habit::Trying { 30 } else { 60 };
+        if room < 2 && self.random.percent(drained) {
             return self.drain(a, &active);
         }
         let pass = a.work[PHASE] != NO_PASS;
-        let building = self.style.building;
+        let building = self.style.habit == Habit::Building;
         let weights = [
             if active.len() < self.style.crowd { 12 } else { 1 }, // begin
             if active.is_empty() { 0 } else { 100 },
@@ -303,10 +313,11 @@ impl Generator {
     fn of_transaction(&mut self, a: &Areas, t: u32) -> Request {
         let written: Vec<u32> =
             (0..a.pages() as u32).filter(|&p| a.get(Table::Writers, p as usize) & bit(t) != 0).collect();
-        let weights = match (written.is_empty(), self.style.building) {
-            (true, _) => [10, 40, 8, 1, 2, 1, 3, 2],
-            (false, true) => [4, 6, 30, 14, 50, 10, 5, 0],
-            (false, false) => [4, 6, 12, 18, 34, 10, 5, 2],
+        let weights = match self.style.habit {
+            _ if written.is_empty() => [10, 40, 8, 1, 2, 1, 3, 2, 3, 2],
+            Habit::Mixed => [4, 6, 12, 18, 34, 10, 5, 2, 3, 3],
+            Habit::Building => [4, 6, 30, 14, 50, 10, 5, 0, 1, 1],
+            Habit::Trying => [4, 6, 10, 24, 40, 8, 2, 1, 12, 16],
         };
         match self.random.weighted(&weights) {
             0 => Call::LockRead(t, self.page()).into(),
@@ -317,7 +328,25 @@ impl Generator {
             5 => self.flush(a, t, &written),
             6 if self.unflushed(a, t).is_some() && self.random.percent(85) => self.flush(a, t, &written),
             6 => Call::Commit(t).into(),
-            _ => Call::Abort(t).into(),
+            7 => Call::Abort(t).into(),
+            8 => Call::Mark(t, self.any_mark()).into(),
+            _ => self.back(a, t).into(),
+        }
+    }
+
+    /// One of the four, seldom one that is none.
+    fn any_mark(&mut self) -> u32 {
+        let marks = if self.random.percent(10) { MARKS + 1 } else { MARKS };
+        self.random.below(marks as usize) as u32
+    }
+
+    /// Mostly to a mark that is set; where none is, one is set mostly.
+    fn back(&mut self, a: &Areas, t: u32) -> Call {
+        let set: Vec<u32> = (0..MARKS).filter(|&mark| a.get(Table::MarkOrder, mark_at(t, mark)) != 0).collect();
+        match self.random.pick(&set) {
+            _ if self.random.percent(10) => Call::Back(t, self.any_mark()),
+            Some(mark) => Call::Back(t, mark),
+            None => Call::Mark(t, self.any_mark()),
         }
     }
 
@@ -353,11 +382,14 @@ impl Generator {
 
     /// Of a known object, to nothing, to the word that it has, to an object known or not, or to data.
     fn set_word(&mut self, a: &Areas, t: u32) -> Call {
+        if let (Some(call), true) = (old_word_by_hand(a, t), self.random.percent(8)) {
+            return call;
+        }
         let writable = |o: u32| a.get(Table::Writers, page_of(o)) & bit(t) != 0;
         let object = self.known(a, t, writable).unwrap_or(ROOT);
         let field = if self.random.percent(75) { self.random.below(4) } else { self.random.below(8) };
         let word = match self.random.below(10) {
-            _ if self.style.building && field < 4 => self.known(a, t, |o| o != ROOT).unwrap_or(0),
+            _ if self.style.habit == Habit::Building && field < 4 => self.known(a, t, |o| o != ROOT).unwrap_or(0),
             0..=2 => 0,
             3 => a.received[word_at(object, field)],
             4 if field < 4 && self.random.percent(40) => self.existing(a),
@@ -430,16 +462,34 @@ impl Generator {
     }
 }
 
+/// A number below n, or about it.
+fn about(n: usize, pages: usize, r: &mut Random) -> u32 {
+    match r.below(12) {
+        0 => n as u32,
+        1 => odd_word(n as u32, pages, r),
+        _ => r.below(n) as u32,
+    }
+}
+
+/// Where the last change of t is a set: its old word set again, which looks like its undoing.
+fn old_word_by_hand(a: &Areas, t: u32) -> Option<Call> {
+    let mut newest_first = (0..a.received_count().min(a.records())).rev().map(|i| a.record(i));
+    match newest_first.find(|record| record[1] == t && record[0] != 7)? {
+        [3, _, object, field, old, _] => Some(Call::SetWord(t, object, field, old)),
+        _ => None,
+    }
+}
+
 /// The largest value of a working word.
-fn bound(area: Area, index: usize, pages: usize) -> Option<u32> {
+fn bound(area: Area, index: usize, pages: usize, records: usize) -> Option<u32> {
     if area != Area::Work {
         return None;
     }
     if index <= ACTIVE {
         return Some(largest_single(index, pages));
     }
-    let table = TABLES.into_iter().rfind(|table| table.first(pages) <= index);
-    table.map(Table::largest)
+    let table = TABLES.into_iter().find(|table| table.range(pages, records).contains(&index));
+    table.map(|table| table.largest(records))
 }
 
 /// With a buffer of another length now and then.
@@ -469,11 +519,13 @@ fn image(r: &mut Random) -> Image {
 
 fn reserved(a: &Areas) -> usize {
     let mut changes = [0usize; 16];
-    for i in 0..a.received_count().min(a.log.len() / RECORD_WORDS) {
+    for i in 0..a.received_count().min(a.records()) {
         let [kind, t, ..] = a.record(i);
+        let left = &mut changes[t as usize % 16];
         match kind {
-            1 => changes[t as usize % 16] = 0,
-            2 | 3 => changes[t as usize % 16] += 1,
+            1 => *left = 0,
+            2 | 3 | 6 if a.get(Table::Undoing, i) != 0 => *left = left.saturating_sub(1),
+            2 | 3 => *left += 1,
             _ => {}
         }
     }
@@ -499,7 +551,7 @@ pub fn plan(random: &mut Random, scope: Scope) -> (usize, usize, Style, usize) {
     let calls = match style.filling {
         None if large => random.between(200, 3000),
         None => random.between(100, 1200),
-        Some(Filling::Sound | Filling::Linked | Filling::Contended) => random.between(100, 900),
+        Some(Filling::Sound | Filling::Linked | Filling::Contended | Filling::Marked) => random.between(100, 900),
         Some(_) => random.between(20, 300),
     };
     (pages, records, style, calls)
@@ -533,21 +585,24 @@ pub fn size(random: &mut Random, large: bool) -> (usize, usize) {
 
 fn style(random: &mut Random, scope: Scope) -> Style {
     let crowd = random.pick(&[1, 1, 2, 2, 3, 3, 5, 16]).unwrap();
-    let plain = Style { cuts: 3, damage: 0, lengths: 4, wild: 40, crowd, building: false, filling: None };
+    let plain = Style { cuts: 3, damage: 0, lengths: 4, wild: 40, crowd, habit: Habit::Mixed, filling: None };
     let styles = match scope {
-        Scope::Legal => [45, 20, 25, 0, 0, 0, 0, 0, 0, 0],
-        _ => [45, 20, 15, 15, 20, 2, 10, 6, 12, 5],
+        Scope::Legal => [45, 20, 25, 35, 0, 0, 0, 0, 0, 0, 0, 0],
+        _ => [45, 20, 15, 30, 15, 20, 2, 10, 6, 12, 5, 10],
     };
+    let trying = Style { cuts: 2, wild: 15, crowd: crowd.min(3), habit: Habit::Trying, ..plain };
     match random.weighted(&styles) {
         0 => plain,
         1 => Style { cuts: 12, wild: 20, ..plain },
-        2 => Style { cuts: 1, wild: 10, crowd: crowd.min(2), building: true, ..plain },
-        3 => Style { damage: 150, ..plain },
-        4 => Style { wild: 250, lengths: 15, cuts: 1, damage: 80, filling: Some(Filling::Sound), ..plain },
-        5 => Style { wild: 600, filling: Some(Filling::Noise), ..plain },
-        6 => Style { filling: Some(Filling::Reopening), ..plain },
-        7 => Style { filling: Some(Filling::Damaged), ..plain },
-        8 => Style { damage: 30, lengths: 10, filling: Some(Filling::Linked), ..plain },
-        _ => Style { damage: 30, filling: Some(Filling::Contended), ..plain },
+        2 => Style { cuts: 1, wild: 10, crowd: crowd.min(2), habit: Habit::Building, ..plain },
+        3 => trying,
+        4 => Style { damage: 150, ..plain },
+        5 => Style { wild: 250, lengths: 15, cuts: 1, damage: 80, filling: Some(Filling::Sound), ..plain },
+        6 => Style { wild: 600, filling: Some(Filling::Noise), ..plain },
+        7 => Style { filling: Some(Filling::Reopening), ..plain },
+        8 => Style { filling: Some(Filling::Damaged), ..plain },
+        9 => Style { damage: 30, lengths: 10, filling: Some(Filling::Linked), ..plain },
+        10 => Style { damage: 30, filling: Some(Filling::Contended), ..plain },
+        _ => Style { damage: 30, filling: Some(Filling::Marked), ..trying },
     }
 }

@@ -17,6 +17,7 @@ mod examples;
 mod generate;
 mod graphs;
 mod holders;
+mod marks;
 mod open;
 mod oracle;
 mod power;

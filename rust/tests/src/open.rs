@@ -7,7 +7,7 @@ use model::layout::*;
 use model::{whole, Fault, Model, Refusal};
 
 use crate::actions::{Action, Filling};
-use crate::generate::{size, Generator, Style};
+use crate::generate::{size, Generator, Habit, Style};
 use crate::random::Random;
 use crate::rubbish::fill;
 use crate::run::Pair;
@@ -81,7 +81,7 @@ fn tried(mut held: Held) -> (Vec<u32>, bool, Areas) {
     held.cut();
     answers.extend([held.begin(0), held.reopen()]);
     let numbers = answers.iter().map(|answer| answer.number).collect();
-    (numbers, held.audit(), held.into_store().back())
+    (numbers, held.audit(), held.into_store().into_areas())
 }
 
 /// Opens a disk by both: the store's areas, or why not; or what differs.
@@ -98,7 +98,7 @@ fn open(disk: &Disk) -> Result<Result<Areas, NotHeld>, String> {
 fn formats_alike(pages: usize, records: usize) -> bool {
     let mut model = Model::new(pages, records);
     let expected = model.format().map(|_| model.areas).map_err(|_| NotHeld::Lengths);
-    Held::format(pages, records).map(|held| held.into_store().back()) == expected
+    Held::format(pages, records).map(|held| held.into_store().into_areas()) == expected
 }
 
 /// Calls and cuts from an opened store on: what the last of them leaves, and how many calls; or what differs or is not
@@ -106,10 +106,10 @@ fn formats_alike(pages: usize, records: usize) -> bool {
 fn go_on(areas: &Areas, random: &mut Random) -> Result<(Areas, u64), String> {
     let audit = Action::from(Call::LockRead(16, 0));
     let crowd = random.between(1, 4);
-    let building = random.percent(20);
-    let style = Style { cuts: 6, damage: 0, lengths: 0, wild: 40, crowd, building, filling: None };
+    let habit = [Habit::Mixed, Habit::Building, Habit::Trying][random.weighted(&[50, 20, 30])];
+    let style = Style { cuts: 6, damage: 0, lengths: 0, wild: 40, crowd, habit, filling: None };
     let mut generator = Generator::new(Random::new(random.next()), style, areas.pages()).going_on();
-    let mut pair = Pair::new(Kind::Library, MODEL, areas.pages(), areas.log.len() / RECORD_WORDS);
+    let mut pair = Pair::new(Kind::Library, MODEL, areas.pages(), areas.records());
     pair.load(areas);
     let mut calls = 0;
     for _ in 0..random.between(20, 400) {

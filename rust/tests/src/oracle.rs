@@ -1,10 +1,11 @@
 //! The model against the Python oracle, over the oracle's line protocol: the answer of every call
 //! and, by `dumpall`, every word after it. The protocol cannot say a wrong length of an area or of
-//! a read buffer; such calls go with the right one. It has no chain; such calls are left out.
+//! a read buffer; such calls go with the right one. It has no chain, mark or back; such calls are left
+//! out.
 //!
 //! One known difference is kept out of the lists: the oracle has no bound on the pass's step number,
-//! which docs/LAYOUT.md ends at 17 x P (DECISIONS 35). Another is kept out of the answers: the oracle
-//! is of document 01, where refusal 6 has the value 0.
+//! which docs/LAYOUT.md ends at 17 x P (DECISIONS 35). Others are those of document 02: the oracle is
+//! of document 01, where refusal 6 has the value 0 and there are no marks, whose words stay 0.
 
 use std::fmt::Write as _;
 use std::io::Write as _;
@@ -60,7 +61,7 @@ fn script(list: &List) -> Script {
             }
             Action::Poke(area, index, value) => script.poke(&mut model, *area, *index, *value),
             Action::Fill(filling, seed) => {
-                let wanted = fill(*filling, *seed, list.pages, list.records);
+                let wanted = filled(*filling, *seed, list.pages, list.records);
                 for area in AREAS {
                     for (index, &value) in wanted.of(area).iter().enumerate() {
                         if model.areas.of(area)[index] != value {
@@ -123,9 +124,7 @@ impl Script {
             Area::Work => {
                 let (name, table, from) = NAMES
                     .into_iter()
-                    .find(|(_, table, _)| {
-                        (table.first(pages)..table.first(pages) + table.len(pages)).contains(&index)
-                    })
+                    .find(|(_, table, _)| table.range(pages, model.areas.records()).contains(&index))
                     .unwrap();
                 format!("W,{name},{}", index - table.first(pages) + from)
             }
@@ -151,8 +150,7 @@ impl Script {
         ];
         lines.extend(SINGLES.iter().enumerate().map(|(k, name)| format!("{name}:{}", a.work[k])));
         for (name, table, from) in NAMES {
-            let first = table.first(a.pages());
-            lines.push(sparse(name, &a.work[first..first + table.len(a.pages())], from));
+            lines.push(sparse(name, &a.work[table.range(a.pages(), a.records())], from));
         }
         self.expected.extend(lines.into_iter().map(|line| (i, line)));
     }
@@ -255,15 +253,23 @@ pub fn run(program: &str, seed: u64, calls: u64, scope: Scope) -> bool {
     true
 }
 
+/// Areas so filled, but for the words that the oracle does not have.
+fn filled(filling: Filling, seed: u64, pages: usize, records: usize) -> Areas {
+    let mut areas = fill(filling, seed, pages, records);
+    areas.work[Table::LeftAtMarks.first(pages)..].fill(0);
+    areas
+}
+
 /// The action as the protocol can say it, if it can. The oracle has no bound on the step number
 /// (DECISIONS 35 has one), so that one is not damaged above it.
 fn sayable(action: Action, pages: usize) -> Option<Action> {
     match action.call() {
-        Some(Call::Chain(_)) => return None,
+        Some(Call::Chain(_) | Call::Mark(..) | Call::Back(..)) => return None,
         Some(call @ Call::Read(..)) => return Some(call.into()),
         _ => {}
     }
     Some(match action {
+        Action::Poke(Area::Work, index, _) if index >= Table::LeftAtMarks.first(pages) => return None,
         Action::Resized(_, _, request) => Action::Call(request),
         Action::Poke(Area::Work, PASS_STEP, value) => {
             Action::Poke(Area::Work, PASS_STEP, value % (17 * pages as u32 + 1))
@@ -282,8 +288,7 @@ fn follow(model: &mut Model, action: &Action) -> u64 {
         Action::Cut => model.cut(),
         Action::Poke(area, index, value) => model.areas.of_mut(*area)[*index] = *value,
         Action::Fill(filling, seed) => {
-            let pages = model.areas.pages();
-            model.areas = fill(*filling, *seed, pages, model.areas.log.len() / RECORD_WORDS);
+            model.areas = filled(*filling, *seed, model.areas.pages(), model.areas.records());
         }
     }
     0

@@ -14,6 +14,7 @@ pub fn fill(filling: Filling, seed: u64, pages: usize, records: usize) -> Areas 
         Filling::Sound => sound(&mut areas, &mut random),
         Filling::Linked => linked(&mut areas, &mut random),
         Filling::Contended => contended(&mut areas, &mut random),
+        Filling::Marked => marked(&mut areas, &mut random),
         Filling::Reopening => reopening(&mut areas, &mut random),
         Filling::Damaged => {
             reopening(&mut areas, &mut random);
@@ -30,8 +31,7 @@ fn noise(areas: &mut Areas, random: &mut Random) {
     }
     areas.work[REOPENING] = reopening_word;
     if random.percent(50) {
-        let records = areas.log.len() / RECORD_WORDS;
-        areas.counts[STABLE_COUNT] = random.below(records + 2) as u32;
+        areas.counts[STABLE_COUNT] = random.below(areas.records() + 2) as u32;
     }
 }
 
@@ -143,8 +143,44 @@ fn several_holders(areas: &mut Areas, page: usize, random: &mut Random) {
     *areas.page_table(Table::Writers, page) = writers;
 }
 
+/// One to three transactions run, with changes that going back undid or not: the undoing words stand at records
+/// of every kind, and above the received ones.
+fn marked(areas: &mut Areas, random: &mut Random) {
+    sound(areas, random);
+    let few = random.between(1, 3) as u32;
+    areas.work[ACTIVE] = bit(few) - 1;
+    let is_there = |&object: &u32| occupied(&areas.received, object);
+    let (there, free): (Vec<u32>, Vec<u32>) = (ROOT..=areas.objects()).partition(is_there);
+    for i in 0..areas.received_count() {
+        let t = random.below(few as usize) as u32;
+        let record = record_of(t, &there, &free, areas.pages(), random);
+        put(areas, i, record);
+    }
+    let records = areas.records();
+    let [left, order, undoing] = [Table::LeftAtMarks, Table::MarkOrder, Table::Undoing];
+    for at in 0..mark_at(few, 0) {
+        areas.table(left)[at] = changes_at_mark(records, random);
+        areas.table(order)[at] = random.below(order.largest(records) as usize + 1) as u32;
+    }
+    let thin = random.between(2, 8);
+    areas.table(undoing).fill_with(|| u32::from(random.below(thin) == 0).min(undoing.largest(records)));
+    single_holders(areas, random);
+}
+
+/// Mostly a set of an object that is there, or the create of one that is not: undone, they leave free slots zero.
+fn record_of(t: u32, there: &[u32], free: &[u32], pages: usize, random: &mut Random) -> [u32; 6] {
+    let created = random.pick(free).unwrap_or(ROOT + 1);
+    match random.weighted(&[4, 25, 50, 8, 10]) {
+        0 => [1, t, 0, 0, 0, 0],
+        1 => [2, t, created, 0, 0, 0],
+        2 => set_record(t, random.pick(there).unwrap(), pages, random),
+        3 => [6, t, created, 0, 0, 0],
+        _ => sound_record(pages, random),
+    }
+}
+
 fn sound_log(areas: &mut Areas, random: &mut Random) {
-    let records = areas.log.len() / RECORD_WORDS;
+    let records = areas.records();
     // many calls need room: the log is full now and then only
     let received = match random.below(4) {
         0 => records,
@@ -167,7 +203,7 @@ fn put(areas: &mut Areas, i: usize, record: [u32; 6]) {
 }
 
 fn sound_work(areas: &mut Areas, random: &mut Random) {
-    let pages = areas.pages();
+    let (pages, records) = (areas.pages(), areas.records());
     // few transactions meet often
     let among = random.pick(&[0b11, 0b111, 0xffff]).unwrap();
     let thins = [1, 2, 3, 8, 40];
@@ -180,15 +216,27 @@ fn sound_work(areas: &mut Areas, random: &mut Random) {
     for table in TABLES {
         let thin = random.pick(&thins).unwrap();
         let zero = random.percent(25);
-        for i in 0..table.len(pages) {
-            let word = match table {
+        for at in table.range(pages, records) {
+            areas.work[at] = match table {
                 _ if zero => 0,
                 Table::Colours => random.below(3) as u32,
+                Table::LeftAtMarks => changes_at_mark(records, random),
+                Table::MarkOrder => random.below(table.largest(records) as usize + 1) as u32,
+                Table::Undoing => u32::from(random.below(thin + 1) == 0).min(table.largest(records)),
                 Table::Pruned | Table::Created if random.percent(10) => mask(random, thin) & among | FLAG,
                 _ => mask(random, thin) & among,
             };
-            areas.work[table.first(pages) + i] = word;
         }
+    }
+}
+
+/// Mostly few, as few changes are left; now and then as many as there may be.
+fn changes_at_mark(records: usize, random: &mut Random) -> u32 {
+    let most = Table::LeftAtMarks.largest(records) as usize;
+    match random.below(8) {
+        0 => most as u32,
+        1 => random.below(most + 1) as u32,
+        _ => random.below(most.min(3) + 1) as u32,
     }
 }
 
@@ -212,8 +260,7 @@ fn transactions_in(mask: u32) -> Vec<u32> {
 /// so that the replay goes through. Some logs have one record out of order, some have records of
 /// all kinds anywhere.
 fn reopening(areas: &mut Areas, random: &mut Random) {
-    let pages = areas.pages();
-    let records = areas.log.len() / RECORD_WORDS;
+    let (pages, records) = (areas.pages(), areas.records());
     noise(areas, random);
     areas.stored.fill(0);
     sound_pages(&mut areas.stored, pages, random);

@@ -25,10 +25,13 @@ pub struct Pair {
     records: usize,
 }
 
-/// The answers that a run saw, by call and answer number (16 for others), and what it reached.
+/// Answer numbers: 0 and the refusals.
+const NUMBERS: usize = 17;
+
+/// The answers that a run saw, by call and answer number (the last for others), and what it reached.
 #[derive(Clone)]
 pub struct Tally {
-    pub answers: Vec<[u64; 17]>,
+    pub answers: Vec<[u64; NUMBERS + 1]>,
     pub calls: u64,
     pub held: u64,
     pub cuts: u64,
@@ -38,13 +41,14 @@ pub struct Tally {
 
 impl Tally {
     pub fn new() -> Tally {
-        Tally { answers: vec![[0; 17]; NAMES.len()], calls: 0, held: 0, cuts: 0, freed: 0, longest_chain: 0 }
+        let answers = vec![[0; NUMBERS + 1]; NAMES.len()];
+        Tally { answers, calls: 0, held: 0, cuts: 0, freed: 0, longest_chain: 0 }
     }
 
     pub fn note(&mut self, action: &Action, answer: u64, sweeping: bool) {
         if let Some(call) = action.call() {
             self.calls += 1;
-            let number = ((answer >> 32) as usize).min(16);
+            let number = ((answer >> 32) as usize).min(NUMBERS);
             let kind = NAMES.iter().position(|&name| name == call.name()).unwrap();
             self.answers[kind][number] += 1;
             match call {
@@ -60,11 +64,11 @@ impl Tally {
 
     pub fn print(&self) {
         print!("{:>8}", "call");
-        (0..16).for_each(|n| print!("{n:>8}"));
+        (0..NUMBERS).for_each(|n| print!("{n:>8}"));
         println!();
         for (name, row) in NAMES.iter().zip(&self.answers) {
             print!("{name:>8}");
-            row[..16].iter().for_each(|n| print!("{n:>8}"));
+            row[..NUMBERS].iter().for_each(|n| print!("{n:>8}"));
             println!();
         }
         println!(
@@ -218,7 +222,8 @@ impl Pair {
                 return Err(format!("{area:?} has {} and {} words", left.len(), right.len()));
             }
             let at = (0..left.len()).find(|&i| left[i] != right[i]).unwrap();
-            return Err(format!("{}: {} and {}", place(area, at, self.pages), left[at], right[at]));
+            let place = place(area, at, self.pages, self.records);
+            return Err(format!("{place}: {} and {}", left[at], right[at]));
         }
         Ok(())
     }
@@ -293,11 +298,14 @@ pub fn distil(list: &List, left: Kind, right: Kind) -> Option<List> {
     Some(shrink(&whole, left, right))
 }
 
-/// The areas with one log record fewer.
+/// The areas with one log record fewer; what is noted of the others goes with them.
 fn without_record(areas: &Areas, i: usize) -> Areas {
     let mut fewer = areas.clone();
     fewer.log.drain(RECORD_WORDS * i..RECORD_WORDS * (i + 1));
     fewer.log.extend([0; RECORD_WORDS]);
+    let undoing = &mut fewer.table(Table::Undoing)[i..];
+    undoing[0] = 0;
+    undoing.rotate_left(1);
     for count in &mut fewer.counts {
         if *count as usize > i {
             *count -= 1;

@@ -18,7 +18,7 @@ returns-3 c = c .before .before .before .before .before .before .before .before 
 
 returns-4 : tie.Need-returns-4
 unfolding benchCall
-returns-4 c = c .before .before .before .before .stability-call .ensures ∙ ap (benchCall _) (sym (c .before .before .before .before .before .before .before .before .before .before .before .before .c4 .given .1))
+returns-4 c = c .before .before .before .before .before .before .stability-call .ensures ∙ ap (benchCall _) (sym (c .before .before .before .before .before .before .before .before .before .before .before .before .before .before .c4 .given .1))
 
 returns-5 : tie.Need-returns-5
 unfolding benchCall

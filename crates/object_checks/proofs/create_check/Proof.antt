@@ -40,11 +40,11 @@ returns-4 c = need-fails _ _ _ _ (ap not (sym (c .before .occupied .ensures) ∙
 
 returns-5 : tie.Need-returns-5
 unfolding createTests
-returns-5 c = need-fails _ _ _ _ (sym (c .before .room-beyond .ensures ∙ room-in _ _ _ _ _ _ _) ∙ not-true _ (c .if5 .taken)) ∙ need-holds _ _ _ _ (ap not (sym (c .before .before .before .occupied .ensures) ∙ c .before .before .if4 .left)) ∙ need-holds _ _ _ _ (sym (c .before .before .before .before .before .can-write .ensures) ∙ not-false _ (c .before .before .before .before .if3 .left)) ∙ need-holds _ _ _ _ (sym (c .before .before .before .before .before .before .before .has .ensures) ∙ not-false _ (c .before .before .before .before .before .before .if2 .left)) ∙ need-holds _ _ _ _ (sym (c .before .before .before .before .before .before .before .before .before .in-range .ensures) ∙ not-false _ (c .before .before .before .before .before .before .before .before .if1 .left))
+returns-5 c = need-fails _ _ _ _ (sym (c .before .room-beyond .ensures ∙ room-in _ _ _ _ _ _ _ _) ∙ not-true _ (c .if5 .taken)) ∙ need-holds _ _ _ _ (ap not (sym (c .before .before .before .occupied .ensures) ∙ c .before .before .if4 .left)) ∙ need-holds _ _ _ _ (sym (c .before .before .before .before .before .can-write .ensures) ∙ not-false _ (c .before .before .before .before .if3 .left)) ∙ need-holds _ _ _ _ (sym (c .before .before .before .before .before .before .before .has .ensures) ∙ not-false _ (c .before .before .before .before .before .before .if2 .left)) ∙ need-holds _ _ _ _ (sym (c .before .before .before .before .before .before .before .before .before .in-range .ensures) ∙ not-false _ (c .before .before .before .before .before .before .before .before .if1 .left))
 
 returns-6 : tie.Need-returns-6
 unfolding createTests
-returns-6 c = all-passed ∙ need-holds _ _ _ _ (sym (c .before .room-beyond .ensures ∙ room-in _ _ _ _ _ _ _) ∙ not-false _ (c .if5 .left)) ∙ need-holds _ _ _ _ (ap not (sym (c .before .before .before .occupied .ensures) ∙ c .before .before .if4 .left)) ∙ need-holds _ _ _ _ (sym (c .before .before .before .before .before .can-write .ensures) ∙ not-false _ (c .before .before .before .before .if3 .left)) ∙ need-holds _ _ _ _ (sym (c .before .before .before .before .before .before .before .has .ensures) ∙ not-false _ (c .before .before .before .before .before .before .if2 .left)) ∙ need-holds _ _ _ _ (sym (c .before .before .before .before .before .before .before .before .before .in-range .ensures) ∙ not-false _ (c .before .before .before .before .before .before .before .before .if1 .left))
+returns-6 c = all-passed ∙ need-holds _ _ _ _ (sym (c .before .room-beyond .ensures ∙ room-in _ _ _ _ _ _ _ _) ∙ not-false _ (c .if5 .left)) ∙ need-holds _ _ _ _ (ap not (sym (c .before .before .before .occupied .ensures) ∙ c .before .before .if4 .left)) ∙ need-holds _ _ _ _ (sym (c .before .before .before .before .before .can-write .ensures) ∙ not-false _ (c .before .before .before .before .if3 .left)) ∙ need-holds _ _ _ _ (sym (c .before .before .before .before .before .before .before .has .ensures) ∙ not-false _ (c .before .before .before .before .before .before .if2 .left)) ∙ need-holds _ _ _ _ (sym (c .before .before .before .before .before .before .before .before .before .in-range .ensures) ∙ not-false _ (c .before .before .before .before .before .before .before .before .if1 .left))
 
 pub create-check-spec : {M : Type 1} → statement M
 create-check-spec =

@@ -14,7 +14,7 @@ returns : tie.Need-returns
 returns c = λ s. let q = c .before .before .mark-step .ensures in step-marks _ _ _ _ _ _ _ (c .before .before .before .before .before .before .before .pass-of .ensures) s _ _ (c .before .before .before .before .before .if1 .taken) (q .0) (q .1)
 
 sweep-step-requires : tie.Need-sweep-step-requires
-sweep-step-requires c κs = let h = c .before .before .before .before .before .before .before .before .before .before .before .before .before .before .pre in let e = c .before .before .before .before .before .before .before .pass-of .ensures in ((h .tables, page-below _ _ _ _ _ _ _ e h, c .before .before .before .before .before .if1 .left, e, h .copies-in, h .received-in, map-below _ _ _ _ _ _ _ e h), (h .kept, h .log-top))
+sweep-step-requires c κs = let h = c .before .before .before .before .before .before .before .before .before .before .before .before .before .before .pre in let e = c .before .before .before .before .before .before .before .pass-of .ensures in ((h .undoing, page-below _ _ _ _ _ _ _ e h, c .before .before .before .before .before .if1 .left, e, h .copies-in, h .received-in, map-below _ _ _ _ _ _ _ e h), (h .kept, h .log-top))
 
 returns-2 : tie.Need-returns-2
 returns-2 c = λ s. step-sweeps _ _ _ _ _ _ _ (c .before .before .before .before .before .before .before .before .before .before .before .before .before .before .before .before .before .before .pass-of .ensures) s _ (c .before .before .before .before .before .before .before .before .before .before .before .before .before .before .before .before .if1 .left) (c .before .before .before .before .before .before .before .before .before .before .sweep-step .ensures s)

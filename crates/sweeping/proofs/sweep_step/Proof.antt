@@ -7,13 +7,13 @@ use Rattle.sweeping.proofs.sweep_step.Statement.{statement}
 use Rattle.sweeping.proofs.sweep_step.Tie as tie
 
 freed-map-requires : tie.Need-freed-map-requires
-freed-map-requires c κs = let q = c .before .before .before .before .before .before .before .before .pre .0 in (q .0, omega arith, omega arith, q .6)
+freed-map-requires c κs = let q = c .before .before .before .before .before .before .before .before .pre .0 in ((q .0 .0, omega arith), omega arith, omega arith, q .6)
 
 sweep-check-requires : tie.Need-sweep-check-requires
 sweep-check-requires c κs = (c .before .before .before .before .before .before .before .before .before .before .before .before .pre .1 .0, omega arith)
 
 sweep-apply-requires : tie.Need-sweep-apply-requires
-sweep-apply-requires c κs = let q = c .before .before .before .before .before .before .before .before .before .before .before .before .before .before .before .before .before .before .before .before .pre .0 in ((q .0, freed-below _ _ _ _ _ (c .before .before .before .before .before .before .before .before .before .before .before .freed-map .ensures), omega arith, q .2, q .3, omega arith, omega arith, c .before .before .before .before .before .before .before .before .before .before .before .before .before .before .before .before .before .before .before .before .pre .1 .0 .two), record-fits _ _ _ _ (c .before .before .before .before .before .before .before .before .before .before .before .before .before .before .before .before .before .before .before .before .pre .1 .1) (sym (c .before .before .before .before .before .enum-told .given .1) ∙ c .before .before .before .before .before .before .before .sweep-check .ensures))
+sweep-apply-requires c κs = let q = c .before .before .before .before .before .before .before .before .before .before .before .before .before .before .before .before .before .before .before .before .pre .0 in (((q .0 .0, omega arith), freed-below _ _ _ _ _ (c .before .before .before .before .before .before .before .before .before .before .before .freed-map .ensures), omega arith, q .2, q .3, omega arith, omega arith, c .before .before .before .before .before .before .before .before .before .before .before .before .before .before .before .before .before .before .before .before .pre .1 .0 .two), record-fits _ _ _ _ _ (c .before .before .before .before .before .before .before .before .before .before .before .before .before .before .before .before .before .before .before .before .pre .1 .1) (sym (c .before .before .before .before .before .enum-told .given .1) ∙ c .before .before .before .before .before .before .before .sweep-check .ensures))
 
 returns : tie.Need-returns
 returns c = λ s. step-full s _ _ _ _ _ _ _ _ (own-page _ _ (c .before .before .before .before .before .before .before .before .before .before .before .before .before .before .before .before .pre .0 .3)) (c .before .before .before .before .before .before .before .freed-map .ensures) _ (sym (c .before .k .given .1) ∙ c .before .before .before .sweep-check .ensures)

@@ -1,5 +1,5 @@
-use Rattle.aborts.specs.Aborts.{aborted-out}
 use borrow.Author.Needs.{needs}
+use Rattle.aborts.specs.Aborts.{aborted-out}
 use Rattle.aborts.proofs.aborting.abort_apply.Statement.{statement}
 use Rattle.aborts.proofs.aborting.abort_apply.Tie as tie
 

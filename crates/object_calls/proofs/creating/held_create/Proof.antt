@@ -4,7 +4,7 @@ use Rattle.areas.specs.Entry.{called-closed, called-refused, called-passed}
 use Rattle.calls.specs.Objects.{callCreate, created}
 use Rattle.object_calls.specs.Changing.{create-ready}
 use Rattle.object_checks.specs.Tests.{create-looks}
-use Rattle.store_ops.specs.Logs.{open-kept, appended-out}
+use Rattle.store_ops.specs.Logs.{open-kept, open-undoing, appended-out}
 use borrow.Author.Tests.{not-true, not-false, eqb-true}
 use mathlib.Core.Path.{sym, _∙_, ap}
 use native.Mathlib.Omega.{arith}
@@ -20,7 +20,7 @@ unfolding callCreate
 returns c = called-closed _ _ _ _ _ (c .before .before .before .before .before .before .before .before .before .pre) (sym (c .before .is-open .ensures) ∙ not-true _ (c .if1 .taken))
 
 create-check-requires : tie.Need-create-check-requires
-create-check-requires c κs = let h = (open-formed _ _ (c .before .before .before .before .before .before .before .before .before .before .before .before .before .pre) (eqb-true _ _ (sym (c .before .before .before .before .before .is-open .ensures) ∙ not-false _ (c .before .before .before .before .if1 .left)))) in let z = h .sized .received-len in ((omega arith, h .sized .tables), open-kept _ _ h)
+create-check-requires c κs = let h = (open-formed _ _ (c .before .before .before .before .before .before .before .before .before .before .before .before .before .pre) (eqb-true _ _ (sym (c .before .before .before .before .before .is-open .ensures) ∙ not-false _ (c .before .before .before .before .if1 .left)))) in let z = h .sized .received-len in ((omega arith, open-undoing _ _ h), open-kept _ _ h)
 
 create-apply-requires : tie.Need-create-apply-requires
 create-apply-requires c κs = create-ready _ _ _ _ _ _ _ _ _ (open-formed _ _ (c .before .before .before .before .before .before .before .before .before .before .before .before .before .before .before .before .before .before .before .before .pre) (eqb-true _ _ (sym (c .before .before .before .before .before .before .before .before .before .before .before .before .is-open .ensures) ∙ not-false _ (c .before .before .before .before .before .before .before .before .before .before .before .if1 .left)))) (sym (c .before .before .before .before .before .before .create-check .ensures) ∙ c .before .before .before .before .enum-told .given .1)

@@ -4,7 +4,7 @@ use Rattle.areas.specs.Entry.{called-closed, called-refused, called-passed}
 use Rattle.calls.specs.Objects.{callSet, wordSet}
 use Rattle.object_calls.specs.Changing.{set-ready, set-tables}
 use Rattle.object_checks.specs.Tests.{set-looks}
-use Rattle.store_ops.specs.Logs.{open-kept, appended-out}
+use Rattle.store_ops.specs.Logs.{open-kept, open-undoing, appended-out}
 use borrow.Author.Tests.{not-true, not-false, eqb-true}
 use mathlib.Core.Path.{sym, _∙_, ap}
 use native.Mathlib.Omega.{arith}
@@ -20,7 +20,7 @@ unfolding callSet
 returns c = called-closed _ _ _ _ _ (c .before .before .before .before .before .before .before .before .before .pre) (sym (c .before .is-open .ensures) ∙ not-true _ (c .if1 .taken))
 
 set-check-requires : tie.Need-set-check-requires
-set-check-requires c κs = let h = (open-formed _ _ (c .before .before .before .before .before .before .before .before .before .before .before .before .before .pre) (eqb-true _ _ (sym (c .before .before .before .before .before .is-open .ensures) ∙ not-false _ (c .before .before .before .before .if1 .left)))) in let z = h .sized .received-len in (h .sized .tables, open-kept _ _ h)
+set-check-requires c κs = let h = (open-formed _ _ (c .before .before .before .before .before .before .before .before .before .before .before .before .before .pre) (eqb-true _ _ (sym (c .before .before .before .before .before .is-open .ensures) ∙ not-false _ (c .before .before .before .before .if1 .left)))) in (open-undoing _ _ h, open-kept _ _ h)
 
 set-apply-requires : tie.Need-set-apply-requires
 set-apply-requires c κs = set-ready _ _ _ _ _ _ _ _ _ (open-formed _ _ (c .before .before .before .before .before .before .before .before .before .before .before .before .before .before .before .before .before .before .before .before .pre) (eqb-true _ _ (sym (c .before .before .before .before .before .before .before .before .before .before .before .before .is-open .ensures) ∙ not-false _ (c .before .before .before .before .before .before .before .before .before .before .before .if1 .left)))) _ _ (sym (c .before .before .before .before .before .before .set-check .ensures) ∙ c .before .before .before .before .enum-told .given .1)

@@ -5,8 +5,7 @@ use Rattle.record_ops.proofs.room.changes_left.Statement.{statement}
 use Rattle.record_ops.proofs.room.changes_left.Tie as tie
 
 returns : tie.Need-returns
-returns c =
-    λ w. c .left-of .ensures .0 ∙ one-left w _ _ _ _ _ _ (c .before .before .before .mask-of .ensures) (c .before .before .walk-down .ensures .each _ (c .before .before .before .before .before .pre .3))
+returns c = c .left-of .ensures .0 ∙ one-left _ _ _ _ _ _ _ (c .before .before .before .mask-of .ensures) (c .before .before .before .before .before .before .pre .1) (c .before .before .walk-down .ensures)
 
 pub changes-left-spec : {M : Type 1} → statement M
 changes-left-spec =

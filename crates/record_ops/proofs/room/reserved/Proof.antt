@@ -1,27 +1,26 @@
-use Prim.Native.Nat.{ℕ, _+_, _*_, _≤_, _-_}
-use mathlib.Core.List.{List}
+use Prim.Native.Nat.{_+_, _*_, _≤_, _-_}
 use mathlib.Core.Path.{_≡_, refl}
 use native.Mathlib.Omega.{arith}
 use borrow.Author.Needs.{needs}
 use Rattle.records.specs.Records.{maxRecords, txnCount}
-use Rattle.records.specs.Changes.{reserveOf, reserved}
+use Rattle.records.specs.Changes.{noted, reserveOf, reserved}
 use Rattle.record_ops.specs.Reserves.{reserved-next}
 use Rattle.words.specs.Tests as tests
 use Rattle.record_ops.proofs.room.reserved.Statement.{statement}
 use Rattle.record_ops.proofs.room.reserved.Tie as tie
 
 abbrev Inv-loop : tie.InvT-loop
-Inv-loop log c active walk sum₀ t₀ sum t = (t ≤ txnCount) × (sum ≤ (maxRecords + 1) * t) × ((w : List ℕ) → sum ≡ tests.sum (reserveOf w log c active) t)
+Inv-loop log work from c active walk sum₀ t₀ sum t = (t ≤ txnCount) × (sum ≤ (maxRecords + 1) * t) × (sum ≡ tests.sum (reserveOf (noted work from) log c active) t)
 
 abbrev μ-loop : tie.MeasureT-loop
-μ-loop log c active walk sum₀ t₀ sum t = txnCount - t
+μ-loop log work from c active walk sum₀ t₀ sum t = txnCount - t
 
 loop-holds : tie.Need-loop-holds Inv-loop μ-loop
 unfolding tests.sum
-loop-holds c = (omega arith, omega arith, λ w. refl)
+loop-holds c = (omega arith, omega arith, refl)
 
 reserve-of-requires : tie.Need-reserve-of-requires Inv-loop μ-loop
-reserve-of-requires c κs = let f = c .before .before .before .walk-down .ensures .each _ (c .before .loop-test .taken) .few in omega arith
+reserve-of-requires c κs = let f = c .before .before .before .walk-down .ensures .few _ (c .before .loop-test .taken) in omega arith
 
 add-sum : tie.Need-add-sum Inv-loop μ-loop
 add-sum c = omega (arith, c .reserve-of .ensures .1)
@@ -29,11 +28,11 @@ add-sum c = omega (arith, c .reserve-of .ensures .1)
 loop-again : tie.Need-loop-again Inv-loop μ-loop
 loop-again c =
     let l = c .before .before .before in
-    (omega arith, omega (arith, c .reserve-of .ensures .1), λ w. reserved-next w _ _ _ _ _ _ _ _ (l .before .walk-down .ensures .each _ (c .before .before .loop-test .taken)) (l .loop .inv .2 w) (c .reserve-of .ensures .0))
+    (omega arith, omega (arith, c .reserve-of .ensures .1), reserved-next _ _ _ _ _ _ _ _ _ (l .before .walk-down .ensures) (c .before .before .loop-test .taken) (l .loop .inv .2) (c .reserve-of .ensures .0))
 
 returns : tie.Need-returns Inv-loop μ-loop
 unfolding reserved
-returns c = let e : c .before .loop .t ≡ txnCount = omega arith in (λ w. rw e at (c .before .loop .inv .2 w), omega arith)
+returns c = let e : c .before .loop .t ≡ txnCount = omega arith in (rw e at (c .before .loop .inv .2), omega arith)
 
 pub reserved-spec : {M : Type 1} → statement M
 reserved-spec =

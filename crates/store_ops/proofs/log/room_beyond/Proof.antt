@@ -1,10 +1,10 @@
-use Rattle.store_ops.specs.Logs.{room-leb}
 use borrow.Author.Needs.{needs}
+use Rattle.store_ops.specs.Logs.{room-leb}
 use Rattle.store_ops.proofs.log.room_beyond.Statement.{statement}
 use Rattle.store_ops.proofs.log.room_beyond.Tie as tie
 
 returns : tie.Need-returns
-returns c = room-leb _ _ _ _ _ (c .reserved .ensures .0)
+returns c = room-leb _ _ _ _ _ _ _ (c .before .before .undoing-at .ensures) (c .reserved .ensures .0)
 
 pub room-beyond-spec : {M : Type 1} → statement M
 room-beyond-spec =
@@ -12,6 +12,7 @@ room-beyond-spec =
     (tie.spec
     (λ c. search needs)
     (λ c. search needs)
+    (λ c κs. search needs)
     (λ c. search needs)
     (λ c κs. search needs)
     (λ c. search needs)

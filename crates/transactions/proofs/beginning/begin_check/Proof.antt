@@ -5,16 +5,16 @@ use Rattle.transactions.proofs.beginning.begin_check.Statement.{stateme
 use Rattle.transactions.proofs.beginning.begin_check.Tie as tie
 
 returns : tie.Need-returns
-returns c = begin-outside _ _ (c .if1 .taken)
+returns c = begin-outside _ _ _ (c .if1 .taken)
 
 returns-2 : tie.Need-returns-2
-returns-2 c = begin-active _ _ (c .before .before .if1 .left) (sym (c .before .has .ensures) ∙ c .if2 .taken)
+returns-2 c = begin-active _ _ _ (c .before .before .if1 .left) (sym (c .before .has .ensures) ∙ c .if2 .taken)
 
 returns-3 : tie.Need-returns-3
-returns-3 c = begin-passes _ _ (c .before .before .before .before .if1 .left) (sym (c .before .before .before .has .ensures) ∙ c .before .before .if2 .left) (sym (c .before .room-beyond .ensures) ∙ c .if3 .taken)
+returns-3 c = begin-passes _ _ _ (c .before .before .before .before .if1 .left) (sym (c .before .before .before .has .ensures) ∙ c .before .before .if2 .left) (sym (c .before .room-beyond .ensures) ∙ c .if3 .taken)
 
 returns-4 : tie.Need-returns-4
-returns-4 c = begin-full _ _ (c .before .before .before .before .if1 .left) (sym (c .before .before .before .has .ensures) ∙ c .before .before .if2 .left) (sym (c .before .room-beyond .ensures) ∙ c .if3 .left)
+returns-4 c = begin-full _ _ _ (c .before .before .before .before .if1 .left) (sym (c .before .before .before .has .ensures) ∙ c .before .before .if2 .left) (sym (c .before .room-beyond .ensures) ∙ c .if3 .left)
 
 pub begin-check-spec : {M : Type 1} → statement M
 begin-check-spec =
