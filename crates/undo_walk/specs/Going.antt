@@ -16,9 +16,9 @@ use Rattle.records.specs.Effects.{undoing}
 use Rattle.records.specs.Soundness.{recordSound, recordsSound}
 use Rattle.record_laws.specs.RecordLaws.{Agree, recorded-agrees, records-sound-at, sound-record, named-object}
 use Rattle.record_laws.specs.SoundRecords.{undoing-sound}
-use Rattle.record_ops.specs.declared.Turn.the-variants.{Left, Past}
+use Rattle.log_turns.specs.declared.Turn.the-variants.{Left, Past}
 use Rattle.record_ops.specs.InRange.{sound-in-range}
-use Rattle.record_ops.specs.Turns.{turnAt, below, below-all, below-some, below-left, below-past, left-tells, past-tells}
+use Rattle.log_turns.specs.Turns.{turnAt, below, below-all, below-some, below-left, below-past, left-tells, past-tells}
 use Rattle.areas.specs.Areas.{Areas, countWords, areas, appended}
 use Rattle.areas.specs.Layout.{HasUndoing, undoingAt}
 use Rattle.areas.specs.Ranges.{recordsIn}

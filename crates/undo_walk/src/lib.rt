@@ -11,8 +11,8 @@ ghost use Rattle.calls.specs.Marks.{takenBack, wentBack};
 ghost use Rattle.store_ops.specs.Logs.{leftIn};
 ghost use Rattle.undo_walk.specs.Going.{Goable};
 use areas::layout;
+use log_turns::Turn;
 use pages::SLOTS;
-use record_ops::Turn;
 use records::Record;
 
 // The tables once a change r of t is undone by record c: its page has to be flushed again, and what it created is no longer known.
@@ -47,7 +47,7 @@ pub fn undo_newest(
     while 0 < left {
         i -= 1;
         let r = log_reader::record_at(log, i);
-        let turn = record_ops::turn_at(r, work[layout::undoing_at(n, i)], t, pending);
+        let turn = log_turns::turn_at(r, work[layout::undoing_at(n, i)], t, pending);
         match turn {
             Turn::Past(p) => pending = p,
             Turn::Left => {
