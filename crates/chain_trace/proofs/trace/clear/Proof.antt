@@ -8,8 +8,8 @@ use borrow.Author.Needs.{needs}
 use Rattle.words.specs.Spans.{fill}
 use Rattle.page_laws.specs.Runs.{fill-turn}
 use Rattle.calls.specs.Chains.{chainWords}
-use Rattle.chain_search.proofs.trace.clear.Statement.{statement}
-use Rattle.chain_search.proofs.trace.clear.Tie as tie
+use Rattle.chain_trace.proofs.trace.clear.Statement.{statement}
+use Rattle.chain_trace.proofs.trace.clear.Tie as tie
 
 start : (b : List ℕ) (d : ℕ) → b ≡ fill (λ k. 0) b d (d - d)
 unfolding fill

@@ -10,7 +10,8 @@ use lib.Dec.{ltb}
 use borrow.Author.Tests.{ltb-true, ltb-false}
 use Rattle.words.specs.Tests.{by-bool}
 use Rattle.pages.specs.Geometry.{objectCount, maxPages, root}
-use Rattle.chain_search.specs.Tracing.{Back, Traceable, Reversed}
+use Rattle.chain_search.specs.Ending.{Back}
+use Rattle.chain_trace.specs.Tracing.{Traceable, Reversed}
 
 -- d objects of the way are in the queue, and x is the last of them
 pub record Trail (from : List ℕ) (o : ℕ) (queue : List ℕ) (x d : ℕ) : Type 0 where

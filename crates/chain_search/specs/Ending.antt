@@ -18,20 +18,14 @@ pub record Back (from : List ℕ) (o : ℕ) (c : List ℕ) : Type 0 where
   pub finder : (i : ℕ) → suc i < length c → getD from (getD c (suc i) 0 - 1) 0 ≡ getD c i 0
   pub once : (i : ℕ) → 0 < i → i < length c → getD c i 0 ≡ root → ⊥
 
--- there is such a chain
-pub record Traceable (from queue : List ℕ) (o : ℕ) : Type 0 where
-  pub chain : List ℕ
-  pub back : Back from o chain
-  pub room : objectCount maxPages ≤ length queue
-
--- d words of the queue are such a chain, the last object first
-pub record Reversed (from : List ℕ) (o : ℕ) (queue : List ℕ) (d : ℕ) : Type 0 where
-  pub chain : List ℕ
-  pub back : Back from o chain
-  pub size : d ≡ length chain
-  pub words : (k : ℕ) → k < d → getD queue k 0 ≡ getD chain (d - 1 - k) 0
-
 -- the search for o ends: it was found, and the finders lead back along its chain; or it has none
 abbrev pub Ended : List ℕ → ℕ → ℕ → List ℕ → Bool → Type 0
 Ended a n o from true = Back from o (chainIn a n o)
 Ended a n o from false = chainIn a n o ≡ []
+
+-- by the answer
+pub ended-so : (a : List ℕ) (n o : ℕ) (from : List ℕ) (b : Bool) → Ended a n o from b → b ≡ true → Back from o (chainIn a n o)
+ended-so a n o from b p e = rw e at p
+
+pub ended-not : (a : List ℕ) (n o : ℕ) (from : List ℕ) (b : Bool) → Ended a n o from b → b ≡ false → chainIn a n o ≡ []
+ended-not a n o from b p e = rw e at p

@@ -3,8 +3,8 @@ ghost use mathlib.Core.Path.{_≡_};
 ghost use Prim.Native.Nat.{_≤_};
 ghost use lib.ListN.{length};
 ghost use Rattle.calls.specs.Chains.{chainWords};
-ghost use Rattle.chain_search.specs.Tracing.{Traceable, Reversed};
-ghost use Rattle.chain_search.specs.Showing.{shownFrom, clearedFrom};
+ghost use Rattle.chain_trace.specs.Tracing.{Traceable, Reversed};
+ghost use Rattle.chain_trace.specs.Showing.{shownFrom, clearedFrom};
 use pages::MAX_OBJECTS;
 use pages::ROOT;
 

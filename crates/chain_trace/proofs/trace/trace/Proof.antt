@@ -3,9 +3,9 @@ use Prim.Native.Nat.{_-_}
 use native.Mathlib.Omega.{arith}
 use borrow.Author.Needs.{needs}
 use Rattle.pages.specs.Geometry.{objectCount, maxPages}
-use Rattle.chain_search.proofs.Trailing.{Trail, trail-start, trail-low, trail-top, trail-room, trail-next, trail-done}
-use Rattle.chain_search.proofs.trace.trace.Statement.{statement}
-use Rattle.chain_search.proofs.trace.trace.Tie as tie
+use Rattle.chain_trace.proofs.Trailing.{Trail, trail-start, trail-low, trail-top, trail-room, trail-next, trail-done}
+use Rattle.chain_trace.proofs.trace.trace.Statement.{statement}
+use Rattle.chain_trace.proofs.trace.trace.Tie as tie
 
 abbrev Inv-loop : tie.InvT-loop
 Inv-loop from queue₀ o x₀ d₀ queue x d = Trail from o queue x d

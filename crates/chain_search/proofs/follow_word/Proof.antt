@@ -4,8 +4,8 @@ use mathlib.Core.Path.{sym, _∙_}
 use borrow.Author.Tests.{not-true, not-false}
 use Rattle.chain_search.proofs.Words.{taken-object, past-data, past-nothing, named-object, room, visited}
 use borrow.Author.Needs.{needs}
-use Rattle.chain_search.proofs.search.follow_word.Statement.{statement}
-use Rattle.chain_search.proofs.search.follow_word.Tie as tie
+use Rattle.chain_search.proofs.follow_word.Statement.{statement}
+use Rattle.chain_search.proofs.follow_word.Tie as tie
 
 returns : tie.Need-returns
 returns c = past-data _ _ _ _ _ _ _ _ _ (c .before .before .before .pre .0) (c .before .before .before .pre .1) (sym (c .before .is-ref .ensures) ∙ not-true _ (c .if1 .taken))

@@ -6,8 +6,8 @@ use borrow.Author.Tests.{ne-eqb}
 use Rattle.pages.specs.Geometry.{objectCount, maxPages}
 use Rattle.chain_search.specs.Following.{Shows}
 use Rattle.chain_search.proofs.Ends.{search-start, tail-few, tail-grows, ended-found, ended}
-use Rattle.chain_search.proofs.search.search.Statement.{statement}
-use Rattle.chain_search.proofs.search.search.Tie as tie
+use Rattle.chain_search.proofs.search.Statement.{statement}
+use Rattle.chain_search.proofs.search.Tie as tie
 
 abbrev Inv-loop : tie.InvT-loop
 Inv-loop copies n from₀ queue₀ o i tail₀ head₀ from queue tail head = (head ≤ tail) × Shows copies n head from queue tail

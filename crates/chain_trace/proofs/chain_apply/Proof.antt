@@ -5,12 +5,12 @@ use borrow.Author.Tests.{not-true, not-false}
 use Rattle.words.specs.Spans.{zero-at}
 use Rattle.pages.specs.Geometry.{objectCount, maxPages}
 use Rattle.reach.specs.Search.{chainIn}
-use Rattle.chain_search.specs.Showing.{clearedFrom}
-use Rattle.chain_search.proofs.Ends.{ended-so, ended-not}
-use Rattle.chain_search.proofs.Shown.{none-shown, traced-length, chain-shown}
+use Rattle.chain_search.specs.Ending.{ended-so, ended-not}
+use Rattle.chain_trace.specs.Showing.{clearedFrom}
+use Rattle.chain_trace.proofs.Shown.{none-shown, traced-length, chain-shown}
 use borrow.Author.Needs.{needs}
-use Rattle.chain_search.proofs.chain_apply.Statement.{statement}
-use Rattle.chain_search.proofs.chain_apply.Tie as tie
+use Rattle.chain_trace.proofs.chain_apply.Statement.{statement}
+use Rattle.chain_trace.proofs.chain_apply.Tie as tie
 
 search-requires : tie.Need-search-requires
 search-requires c κs = let p = c .before .before .before .before .pre in (record { exact = p .0; some = p .1; few = p .2; sound = p .3 }, p .4, zero-at (objectCount maxPages), omega arith, omega arith)

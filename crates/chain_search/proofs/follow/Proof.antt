@@ -7,8 +7,8 @@ use Rattle.pages.specs.Geometry.{slotWords}
 use Rattle.chain_search.specs.Following.{Taking}
 use Rattle.chain_search.proofs.Steps.{take-start, take-end}
 use Rattle.chain_search.proofs.Ends.{tail-few}
-use Rattle.chain_search.proofs.search.follow.Statement.{statement}
-use Rattle.chain_search.proofs.search.follow.Tie as tie
+use Rattle.chain_search.proofs.follow.Statement.{statement}
+use Rattle.chain_search.proofs.follow.Tie as tie
 
 abbrev Inv-loop : tie.InvT-loop
 Inv-loop copies n from₀ queue₀ head tail u end₀ f₀ from queue end f = (f ≤ slotWords) × Taking copies n head tail u f from queue end

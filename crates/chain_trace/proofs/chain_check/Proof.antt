@@ -7,8 +7,8 @@ use Rattle.areas.specs.Answers.{all-passed, need-holds, need-fails}
 use Rattle.calls.specs.Chains.{chainTests}
 use Rattle.acceptance.specs.Objects.{object-facts}
 use borrow.Author.Needs.{needs}
-use Rattle.chain_search.proofs.chain_check.Statement.{statement}
-use Rattle.chain_search.proofs.chain_check.Tie as tie
+use Rattle.chain_trace.proofs.chain_check.Statement.{statement}
+use Rattle.chain_trace.proofs.chain_check.Tie as tie
 
 returns : tie.Need-returns
 unfolding chainTests

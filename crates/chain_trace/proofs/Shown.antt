@@ -10,9 +10,10 @@ use borrow.Author.Tests.{ltb-true, ltb-false}
 use Rattle.words.specs.Tests.{by-bool}
 use Rattle.words.specs.Spans.{length-fill, fill-outside, fill-inside}
 use Rattle.calls.specs.Chains.{chainWords, shown}
-use Rattle.chain_search.specs.Tracing.{Back, Reversed}
-use Rattle.chain_search.specs.Showing.{shownFrom, clearedFrom}
-use Rattle.chain_search.proofs.Trailing.{same-chain}
+use Rattle.chain_search.specs.Ending.{Back}
+use Rattle.chain_trace.specs.Tracing.{Reversed}
+use Rattle.chain_trace.specs.Showing.{shownFrom, clearedFrom}
+use Rattle.chain_trace.proofs.Trailing.{same-chain}
 
 -- chain c stands at the front of buffer r
 module _ (c r : List ℕ) (size : length r ≡ chainWords) (few : length c ≤ chainWords) (front : (i : ℕ) → i < length c → getD r i 0 ≡ getD c i 0) where

@@ -7,8 +7,8 @@ use lib.ListN.{length, getD, set, length-set}
 use borrow.Author.Needs.{needs}
 use Rattle.words.specs.Spans.{fill}
 use Rattle.page_laws.specs.Runs.{fill-turn}
-use Rattle.chain_search.proofs.trace.show.Statement.{statement}
-use Rattle.chain_search.proofs.trace.show.Tie as tie
+use Rattle.chain_trace.proofs.trace.show.Statement.{statement}
+use Rattle.chain_trace.proofs.trace.show.Tie as tie
 
 turn : (g : ℕ → ℕ) (b : List ℕ) (i : ℕ) (r : List ℕ) → r ≡ fill g b 0 i → set r i (g i) ≡ fill g b 0 (i + 1)
 turn g b i r e = let z : 0 + i ≡ i = omega arith in ap (λ (k : ℕ). set r k (g i)) (sym z) ∙ fill-turn g b 0 i r e
