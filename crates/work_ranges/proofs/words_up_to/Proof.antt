@@ -3,9 +3,9 @@ use native.Mathlib.Omega.{arith}
 use Prim.Native.Nat.{_≤_, _-_}
 use mathlib.Core.Path.{_≡_}
 use Rattle.words.specs.Spans.{upTo}
-use Rattle.entry.specs.Scans.{up-to-none, up-to-next, up-to-end}
-use Rattle.entry.proofs.words_up_to.Statement.{statement}
-use Rattle.entry.proofs.words_up_to.Tie as tie
+use Rattle.work_ranges.specs.Scans.{up-to-none, up-to-next, up-to-end}
+use Rattle.work_ranges.proofs.words_up_to.Statement.{statement}
+use Rattle.work_ranges.proofs.words_up_to.Tie as tie
 
 abbrev Inv-loop : tie.InvT-loop
 Inv-loop w a n top ok₀ k₀ ok k = (k ≤ n) × (ok ≡ upTo w a k top)

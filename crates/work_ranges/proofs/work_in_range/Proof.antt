@@ -2,9 +2,9 @@ use mathlib.Core.Path.{refl}
 use native.Mathlib.Omega.{arith}
 use borrow.Author.Tests.{not-true, not-false}
 use borrow.Author.Needs.{needs}
-use Rattle.entry.specs.Scans.{first-stops, runs-go, up-to-as}
-use Rattle.entry.proofs.work_in_range.Statement.{statement}
-use Rattle.entry.proofs.work_in_range.Tie as tie
+use Rattle.work_ranges.specs.Scans.{first-stops, runs-go, up-to-as}
+use Rattle.work_ranges.proofs.work_in_range.Statement.{statement}
+use Rattle.work_ranges.proofs.work_in_range.Tie as tie
 
 returns : tie.Need-returns
 returns c = first-stops _ _ _ refl refl refl refl refl refl (not-true _ (c .if1 .taken))

@@ -1,8 +1,8 @@
 use mathlib.Core.Path.{sym}
 use borrow.Author.Tests.{lt-ltb, le-ltb}
 use Rattle.words.specs.Tests.{if-t, if-f}
-use Rattle.entry.proofs.undoing_top.Statement.{statement}
-use Rattle.entry.proofs.undoing_top.Tie as tie
+use Rattle.work_ranges.proofs.undoing_top.Statement.{statement}
+use Rattle.work_ranges.proofs.undoing_top.Tie as tie
 
 returns : tie.Need-returns
 returns c = sym (if-t _ _ _ (lt-ltb 3 _ (c .if1 .taken)))
