@@ -2,7 +2,7 @@
 -- record is met before the change that it undoes, so the walk keeps how many such changes are still to come. Assumes nothing.
 use Prim.Native.Nat.{ℕ, zero, suc, _+_, _-_, _<_, _≤_}
 use mathlib.Core.Path.{_≡_, refl, sym, _∙_}
-use mathlib.Core.Bool.{Bool, true, false, _&&_}
+use mathlib.Core.Bool.{Bool, true, false, not, _&&_, _||_}
 use mathlib.Core.List.{List, [], _∷_}
 use lib.ListN.{length, drop}
 use lib.Seq.{drop-nil}
@@ -10,7 +10,7 @@ use lib.Dec.{eqb}
 use native.Mathlib.Numerals.{add-one}
 use native.Mathlib.Omega.{arith}
 use borrow.Author.Tests.{eqb-true, ne-eqb}
-use Rattle.words.specs.Tests.{if, by-bool}
+use Rattle.words.specs.Tests.{if, by-bool, clash}
 use Rattle.records.specs.declared.Record.{Record}
 use Rattle.records.specs.Records.{recordAt, isBegin, isChange, changesObject}
 use Rattle.records.specs.Changes.{changesIn, changesLeft}
@@ -40,6 +40,20 @@ drop-one p (x ∷ l) = rw add-one
 drop-change : (p i : ℕ) (l : List ℕ) → drop p (i ∷ l) ≡ turned (if (eqb p 0) Left (Past (p - 1))) i l
 drop-change zero i l = refl
 drop-change (suc p) i l = let e : suc p - 1 ≡ p = omega arith in rw (ne-eqb (suc p) 0 (λ z. omega arith), e)
+
+-- the tests in the order that the code has them: first a change that going back did not append. a: it did not append r
+pub plain-change : (a : Bool) (r : Record) (t : ℕ) → a && isChange r t ≡ true → (not a && changesObject r t ≡ false) × (isChange r t ≡ true)
+plain-change true r t h = (refl, h)
+plain-change false r t h = clash h refl
+
+less : (x y z k : Bool) → (x || y || z) && k ≡ false → (x || y) && k ≡ false
+less true y z k h = h
+less false true z k h = h
+less false false z k h = refl
+
+pub no-change : (a : Bool) (r : Record) (t : ℕ) → a && isChange r t ≡ false → not a && changesObject r t ≡ false → isChange r t ≡ false
+no-change true r t h k = h
+no-change false r t h k = less (eqb (r .kind) 2) (eqb (r .kind) 3) (eqb (r .kind) 6) (eqb (r .txn) t) k
 
 module _ (b : Bool) (r : Record) (t p : ℕ) where
   pub turn-next : (i : ℕ) (l : List ℕ) → isBegin r t ≡ false → drop p (changesNext b t i r l) ≡ turned (turnAt b r t p) i l

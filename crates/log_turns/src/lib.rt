@@ -14,20 +14,20 @@ pub enum Turn {
 }
 
 // The turn at record r of a walk for the changes of t that are left. word: whether going back appended r; pending: how many changes
-// below were undone above.
+// below were undone above. A change that going back did not append comes first: most of a transaction's records are such.
 pub fn turn_at(r: Record, word: u32, t: u32, pending: u32) -> Turn
     requires { ⌜ pending ≤ maxRecords ⌝ }
     ensures { λ x. ⌜ x ≡ turnAt (not (eqb word 0)) r t pending ⌝ }
 {
     let change = (r.kind == records::CREATE) | (r.kind == records::SET);
+    if (word == 0) & (change & (r.txn == t)) {
+        if pending == 0 {
+            return Turn::Left;
+        }
+        return Turn::Past(pending - 1);
+    }
     if (word != 0) & ((change | (r.kind == records::UNCREATE)) & (r.txn == t)) {
         return Turn::Past(pending + 1);
     }
-    if !(change & (r.txn == t)) {
-        return Turn::Past(pending);
-    }
-    if pending == 0 {
-        return Turn::Left;
-    }
-    Turn::Past(pending - 1)
+    Turn::Past(pending)
 }

@@ -166,9 +166,9 @@ module _ (u : ℕ → Bool) (g : List ℕ) (mask c j i s : ℕ) (l d : List ℕ)
       sought-same t = by-bool (eqb (r .txn) t) (λ e. rw (absent t e)) (λ e. rw (e, and-false (eqb (r .kind) 1)) (sym (and-true (bit s t))))
 
   -- one of a transaction that is sought: x, the turn
-  module _ (inside : r .txn < txnCount) (one : bit s (r .txn) ≡ true) (s′ : ℕ) (es : s′ ≡ soughtNext s r) (x : Turn) (ex : x ≡ turnOf (r .txn)) where
-    sought-bit : (t : ℕ) → bit s′ t ≡ bit s t && not (isBegin r t)
-    sought-bit t = by-bool (eqb (r .kind) 1)
+  module _ (inside : r .txn < txnCount) (one : bit s (r .txn) ≡ true) (x : Turn) (ex : x ≡ turnOf (r .txn)) where
+    sought-bit : (s′ : ℕ) → s′ ≡ soughtNext s r → (t : ℕ) → bit s′ t ≡ bit s t && not (isBegin r t)
+    sought-bit s′ es t = by-bool (eqb (r .kind) 1)
         (λ e. rw (es, e) (bit-without s (r .txn) t ∙ rw (eqb-swap t (r .txn))))
         (λ e. rw (es, e) (sym (and-true (bit s t))))
 
@@ -183,11 +183,19 @@ module _ (u : ℕ → Bool) (g : List ℕ) (mask c j i s : ℕ) (l d : List ℕ)
     kept : (f : Turn → ℕ → ℕ) (k : List ℕ) → getD k (r .txn) 0 ≡ f x (getD k (r .txn) 0) → Counted f k k
     kept f k e = record { long = refl; own = rw (one, ← ex) e; other = λ t q. refl }
 
-    pub walk-left : x ≡ Left → WalkedTo u g mask c i s′ (set l (r .txn) (getD l (r .txn) 0 + 1)) d
-    walk-left e = walk-by s′ _ d sought-bit (put metBy l _ (w .size) (rw e)) (kept undoneBy d (rw e))
+    -- a change that is left is no begin
+    still-sought : x ≡ Left → s ≡ soughtNext s r
+    still-sought e =
+        let h = left-tells (u i) r (r .txn) (getD d (r .txn) 0) (sym ex ∙ e) .0 in
+        by-bool (eqb (r .kind) 1)
+        (λ k. clash h (rw (eqb-true (r .kind) 1 k) refl))
+        (λ k. rw k refl)
 
-    pub walk-on : (q : ℕ) → x ≡ Past q → WalkedTo u g mask c i s′ l (set d (r .txn) q)
-    walk-on q e = walk-by s′ l _ sought-bit (kept metBy l (rw e)) (put undoneBy d q (w .size-undone) (rw e))
+    pub walk-left : x ≡ Left → WalkedTo u g mask c i s (set l (r .txn) (getD l (r .txn) 0 + 1)) d
+    walk-left e = walk-by s _ d (sought-bit s (still-sought e)) (put metBy l _ (w .size) (rw e)) (kept undoneBy d (rw e))
+
+    pub walk-on : (q : ℕ) → x ≡ Past q → (s′ : ℕ) → s′ ≡ soughtNext s r → WalkedTo u g mask c i s′ l (set d (r .txn) q)
+    walk-on q e s′ es = walk-by s′ l _ (sought-bit s′ es) (kept metBy l (rw e)) (put undoneBy d q (w .size-undone) (rw e))
 
 -- the changes of t that are left, of a walk to the first record
 walked-left : (u : ℕ → Bool) (g : List ℕ) (mask c s t m p : ℕ) → bit mask t ≡ true → Walked u g mask c 0 s t m p → if (bit s t) 0 m ≡ length (changesLeft u g c t)

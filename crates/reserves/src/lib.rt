@@ -50,11 +50,13 @@ fn walk_down(log: &[u32], work: &[u32], from: usize, c: usize, mask: u32) -> Wal
         let r = log_reader::record_at(log, i);
         let t = r.txn as usize;
         if words::has_bit(sought, t) {
-            sought = sought_next(sought, r);
             let turn = log_turns::turn_at(r, work[from + i], r.txn, undone[t]);
             match turn {
                 Turn::Left => changes[t] += 1,
-                Turn::Past(p) => undone[t] = p,
+                Turn::Past(p) => {
+                    undone[t] = p;
+                    sought = sought_next(sought, r);
+                }
             }
         }
     }

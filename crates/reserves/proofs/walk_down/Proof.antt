@@ -23,17 +23,14 @@ cast-t c = let h = record-facts _ _ _ _ _ (c .before .record-at .ensures) (c .be
 has-bit-requires : tie.Need-has-bit-requires Inv-loop μ-loop
 has-bit-requires c κs = let h = record-facts _ _ _ _ _ (c .before .record-at .ensures) (c .before .before .before .before .before .before .before .pre .sound) (omega arith) .txn-below in omega arith
 
-sought-next-requires : tie.Need-sought-next-requires Inv-loop μ-loop
-sought-next-requires c κs = record-facts _ _ _ _ _ (c .before .before .before .record-at .ensures) (c .before .before .before .before .before .before .before .before .before .pre .sound) (omega arith) .txn-below
-
 array-read-turn-at : tie.Need-array-read-turn-at Inv-loop μ-loop
-array-read-turn-at c = record-facts _ _ _ _ _ (c .before .before .before .before .before .record-at .ensures) (c .before .before .before .before .before .before .before .before .before .before .before .pre .sound) (omega arith) .txn-below
+array-read-turn-at c = record-facts _ _ _ _ _ (c .before .before .before .before .record-at .ensures) (c .before .before .before .before .before .before .before .before .before .before .pre .sound) (omega arith) .txn-below
 
 mul-turn-at-2 : tie.Need-mul-turn-at-2 Inv-loop μ-loop
 mul-turn-at-2 c = let h = array-read-turn-at c in omega arith
 
 turn-at-requires : tie.Need-turn-at-requires Inv-loop μ-loop
-turn-at-requires c κs = let h = array-read-turn-at c in let f = c .before .before .before .before .before .before .before .before .loop .inv .1 .each _ h .few in omega arith
+turn-at-requires c κs = let h = array-read-turn-at c in let f = c .before .before .before .before .before .before .before .loop .inv .1 .each _ h .few in omega arith
 
 mul-changes : tie.Need-mul-changes Inv-loop μ-loop
 mul-changes c = let h = array-read-turn-at (c .before .before .before) in omega arith
@@ -42,13 +39,13 @@ array-read-changes : tie.Need-array-read-changes Inv-loop μ-loop
 array-read-changes c = array-read-turn-at (c .before .before .before)
 
 add-changes : tie.Need-add-changes Inv-loop μ-loop
-add-changes c = let h = array-read-turn-at (c .before .before .before) in let f = c .before .before .before .before .before .before .before .before .before .before .before .loop .inv .1 .each _ h .few in omega arith
+add-changes c = let h = array-read-turn-at (c .before .before .before) in let f = c .before .before .before .before .before .before .before .before .before .before .loop .inv .1 .each _ h .few in omega arith
 
 array-write-changes : tie.Need-array-write-changes Inv-loop μ-loop
 array-write-changes c = array-read-turn-at (c .before .before .before)
 
 loop-again : tie.Need-loop-again Inv-loop μ-loop
-loop-again c = (omega arith, walk-left _ _ _ _ _ _ _ _ _ _ (omega arith) (c .before .before .before .before .before .before .before .before .record-at .ensures) (c .before .before .before .before .before .before .before .before .before .before .before .loop .inv .1) (array-read-turn-at (c .before .before .before)) (sym (c .before .before .before .before .before .before .has-bit .ensures) ∙ c .before .before .before .before .before .if2 .taken) _ (c .before .before .before .before .sought-next .ensures) _ (c .before .before .turn-at .ensures) (c .enum-told .given .1))
+loop-again c = (omega arith, walk-left _ _ _ _ _ _ _ _ _ _ (omega arith) (c .before .before .before .before .before .before .before .record-at .ensures) (c .before .before .before .before .before .before .before .before .before .before .loop .inv .1) (array-read-turn-at (c .before .before .before)) (sym (c .before .before .before .before .before .has-bit .ensures) ∙ c .before .before .before .before .if2 .taken) _ (c .before .before .turn-at .ensures) (c .enum-told .given .1))
 
 mul-undone : tie.Need-mul-undone Inv-loop μ-loop
 mul-undone c = let h = array-read-turn-at (c .before .before .before .before) in omega arith
@@ -56,8 +53,11 @@ mul-undone c = let h = array-read-turn-at (c .before .before .before .before) in
 array-write-undone : tie.Need-array-write-undone Inv-loop μ-loop
 array-write-undone c = array-read-turn-at (c .before .before .before .before)
 
+sought-next-requires : tie.Need-sought-next-requires Inv-loop μ-loop
+sought-next-requires c κs = array-read-turn-at (c .before .before .before .before)
+
 loop-again-2 : tie.Need-loop-again-2 Inv-loop μ-loop
-loop-again-2 c = (omega arith, walk-on _ _ _ _ _ _ _ _ _ _ (omega arith) (c .before .before .before .before .before .before .before .before .before .record-at .ensures) (c .before .before .before .before .before .before .before .before .before .before .before .before .loop .inv .1) (array-read-turn-at (c .before .before .before .before)) (sym (c .before .before .before .before .before .before .before .has-bit .ensures) ∙ c .before .before .before .before .before .before .if2 .taken) _ (c .before .before .before .before .before .sought-next .ensures) _ (c .before .before .before .turn-at .ensures) _ (c .before .turn .given .1))
+loop-again-2 c = (omega arith, walk-on _ _ _ _ _ _ _ _ _ _ (omega arith) (c .before .before .before .before .before .before .before .before .before .record-at .ensures) (c .before .before .before .before .before .before .before .before .before .before .before .before .loop .inv .1) (array-read-turn-at (c .before .before .before .before .before)) (sym (c .before .before .before .before .before .before .before .has-bit .ensures) ∙ c .before .before .before .before .before .before .if2 .taken) _ (c .before .before .before .before .turn-at .ensures) _ (c .before .before .turn .given .1) _ (c .sought-next .ensures))
 
 loop-again-3 : tie.Need-loop-again-3 Inv-loop μ-loop
 loop-again-3 c = (omega arith, walk-past _ _ _ _ _ _ _ _ _ _ (omega arith) (c .before .before .before .record-at .ensures) (c .before .before .before .before .before .before .loop .inv .1) (sym (c .before .has-bit .ensures) ∙ c .if2 .left))
@@ -79,7 +79,6 @@ walk-down-spec =
     (λ c κs. search needs)
     cast-t
     has-bit-requires
-    sought-next-requires
     (λ c. search needs)
     (λ c. search needs)
     (λ c. search needs)
@@ -96,6 +95,7 @@ walk-down-spec =
     (λ c. search needs)
     mul-undone
     array-write-undone
+    sought-next-requires
     (λ c. search needs)
     loop-again-2
     (λ c. search needs)
