@@ -15,10 +15,10 @@ use Rattle.records.specs.Effects.{effect, undoing}
 use Rattle.records.specs.Soundness.{recordSound, recordsSound}
 use Rattle.record_laws.specs.RecordLaws.{Agree, recorded-other, records-sound-at}
 use Rattle.record_laws.specs.SoundRecords.{undoing-sound, aborted-sound}
-use Rattle.record_ops.specs.declared.Turn.{Turn}
-use Rattle.record_ops.specs.declared.Turn.the-variants.{Left, Past}
+use Rattle.log_turns.specs.declared.Turn.{Turn}
+use Rattle.log_turns.specs.declared.Turn.the-variants.{Left, Past}
 use Rattle.record_ops.specs.InRange.{sound-in-range}
-use Rattle.record_ops.specs.Turns.{turnAt, below, left-tells, past-tells, below-all, below-some, below-left, below-past}
+use Rattle.log_turns.specs.Turns.{turnAt, below, left-tells, past-tells, below-all, below-some, below-left, below-past}
 use Rattle.areas.specs.Areas.{Areas, countWords, areas, appended}
 use Rattle.areas.specs.Layout.{HasUndoing, undoingAt}
 use Rattle.areas.specs.Tables.{undoes}

@@ -8,7 +8,7 @@ ghost use Rattle.calls.specs.Transactions.{rolledBack};
 ghost use Rattle.store_ops.specs.Logs.{leftIn};
 ghost use Rattle.aborts.specs.Rolling.{Undoable};
 use areas::layout;
-use record_ops::Turn;
+use log_turns::Turn;
 
 // Appends, newest first, the undoing record of each change of t that is left: down the log until there is none.
 fn roll_back(
@@ -28,7 +28,7 @@ fn roll_back(
     while 0 < left {
         i -= 1;
         let r = log_reader::record_at(log, i);
-        let turn = record_ops::turn_at(r, work[layout::undoing_at(n, i)], t, undone);
+        let turn = log_turns::turn_at(r, work[layout::undoing_at(n, i)], t, undone);
         match turn {
             Turn::Left => {
                 let _ = store_ops::append(received, log, counts, record_ops::undoing(r));

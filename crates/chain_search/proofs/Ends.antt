@@ -21,7 +21,7 @@ use Rattle.chain_laws.specs.Links.{Object, sound-within}
 use Rattle.chain_laws.specs.Searching.{Queue, last-root, found-root, searched-first, searched-next, searched-rest, followed-finds, finds, searched-queue}
 use Rattle.chain_laws.specs.Answers.{first-to, none-to, still-to}
 use Rattle.chain_search.specs.Following.{SearchedArea, hasFinder, Finder, Between, Shows}
-use Rattle.chain_search.specs.Tracing.{Back, Ended}
+use Rattle.chain_search.specs.Ending.{Back, Ended}
 use Rattle.chain_search.proofs.Steps.{shows-tail}
 
 -- the root is its own finder
@@ -187,10 +187,3 @@ tail-grows a n head from queue from′ queue′ tail r s t =
     let q = searched a n head in by-bool (ltb head (length q))
     (λ b. let z = ap length (searched-next a n head (ltb-true head (length q) b) ∙ followed-finds a n q (getD q head [])) ∙ grown-length q (getD q head []) (passing (finds a q (getD q head [])) (objectCount n)) in omega arith)
     (λ b. let z = ap length (searched-rest a n head (ltb-false head (length q) b)) in omega arith)
-
--- by the answer
-pub ended-so : (a : List ℕ) (n o : ℕ) (from : List ℕ) (b : Bool) → Ended a n o from b → b ≡ true → Back from o (chainIn a n o)
-ended-so a n o from b p e = rw e at p
-
-pub ended-not : (a : List ℕ) (n o : ℕ) (from : List ℕ) (b : Bool) → Ended a n o from b → b ≡ false → chainIn a n o ≡ []
-ended-not a n o from b p e = rw e at p

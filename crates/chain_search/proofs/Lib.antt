@@ -1,9 +1,7 @@
 -- Laws of the search's arrays.
 pub mod Inserting
-pub mod Trailing
 pub mod OneMore
 pub mod Takes
 pub mod Words
 pub mod Steps
 pub mod Ends
-pub mod Shown

@@ -1,5 +1,4 @@
--- What the search's arrays stand for, step by step.
+-- What the search's arrays stand for, step by step, and what it leaves.
 pub mod Entering
 pub mod Following
-pub mod Tracing
-pub mod Showing
+pub mod Ending

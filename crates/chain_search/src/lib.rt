@@ -1,53 +1,87 @@
-// The chain of references that keeps an object: a search from the root, and the chain that it leaves, in a lent buffer.
+// The search for the chain of references that keeps an object: a queue of objects, each with its finder. Each reference of an object
+// that is taken from the queue is looked at once.
 mod entering;
-mod search;
-mod trace;
 
 ghost use mathlib.Core.Path.{_≡_};
-ghost use mathlib.Core.Bool.{true};
-ghost use mathlib.Core.List.{[]};
-ghost use Prim.Native.Nat.{_*_, _≤_};
-ghost use lib.ListN.{length};
-ghost use Rattle.pages.specs.Geometry.{pageWords, maxPages};
-ghost use Rattle.pages.specs.Soundness.{areaSound};
-ghost use Rattle.reach.specs.Search.{chainIn};
-ghost use Rattle.areas.specs.Answers.{verdict};
-ghost use Rattle.areas.specs.Areas.{areas};
-ghost use Rattle.calls.specs.Chains.{chainWords, chainTests, shown};
+ghost use Prim.Native.Nat.{ℕ, _+_, _<_, _≤_};
+ghost use lib.ListN.{length, getD};
+ghost use Rattle.pages.specs.Geometry.{slotWords, maxPages, objectCount};
 ghost use Rattle.chain_laws.specs.Links.{Object};
-use areas::Check;
-use areas::Refusal;
+ghost use Rattle.chain_search.specs.Following.{SearchedArea, Taking, Shows};
+ghost use Rattle.chain_search.specs.Ending.{Ended};
+use entering::visit;
 use page_ops::change;
 use pages::MAX_OBJECTS;
-use pages::SLOTS;
+use pages::ROOT;
+use pages::SLOT_WORDS;
 
-// Refusals 3 and 15 of a chain: there is no such object, or its slot is free in the copies.
-pub fn chain_check(copies: &[u32], n: usize, o: u32) -> Check
-    requires { ⌜ (pageWords * n ≤ length (now copies)) × (n ≤ maxPages) ⌝ }
-    ensures { λ r. ⌜ r ≡ verdict (chainTests (areas [] (now (copies .entry)) [] [] [] []) n o) ⌝ }
+// Word f of object u, which stands at head: what it names is visited. first: where the queue ended when u was taken.
+fn follow_word(
+    copies: &[u32],
+    n: usize,
+    from: &mut [u32; MAX_OBJECTS],
+    queue: &mut [u32; MAX_OBJECTS],
+    head: usize,
+    first: usize,
+    tail: usize,
+    u: u32,
+    f: u32,
+) -> usize
+    requires { ⌜ SearchedArea (now copies) n × Taking (now copies) n head first u f (now from) (now queue) tail × (f < slotWords) ⌝ }
+    ensures { λ r. ⌜ Taking (now (copies .entry)) n head first u (f + 1) (now (from .exit)) (now (queue .exit)) r ⌝ }
 {
-    if !((1 <= o) & (o as usize <= SLOTS * n)) {
-        return Check::Refuse(Refusal::OutOfRange);
+    if !change::is_ref(copies, u, f) {
+        return tail;
     }
-    if change::occupied(copies, o) {
-        return Check::Accept;
+    let x = change::word_of(copies, u, f);
+    if x == 0 {
+        return tail;
     }
-    Check::Refuse(Refusal::Free)
+    visit(from, queue, first, tail, u, x)
 }
 
-// What an accepted chain does: the chain goes into the buffer. Answers its number of objects.
-pub fn chain_apply(copies: &[u32], buffer: &mut [u32], n: usize, o: u32) -> u32
-    requires { ⌜ (length (now copies) ≡ pageWords * n) × (1 ≤ n) × (n ≤ maxPages) × (areaSound (now copies) n ≡ true) × Object n o × (length (now buffer) ≡ chainWords) ⌝ }
-    ensures { λ r. ⌜ (r ≡ length (chainIn (now (copies .entry)) n o)) × (now (buffer .exit) ≡ shown (chainIn (now (copies .entry)) n o)) ⌝ }
+// Every word of the object at head.
+fn follow(
+    copies: &[u32],
+    n: usize,
+    from: &mut [u32; MAX_OBJECTS],
+    queue: &mut [u32; MAX_OBJECTS],
+    head: usize,
+    tail: usize,
+) -> usize
+    requires { ⌜ SearchedArea (now copies) n × Shows (now copies) n head (now from) (now queue) tail × (head < tail) ⌝ }
+    ensures { λ r. ⌜ Shows (now (copies .entry)) n (head + 1) (now (from .exit)) (now (queue .exit)) r ⌝ }
 {
-    let mut from = [0u32; MAX_OBJECTS];
-    let mut queue = [0u32; MAX_OBJECTS];
-    if !search::search(copies, n, &mut from, &mut queue, o) {
-        trace::clear(buffer, 0);
-        return 0;
+    let u = queue[head];
+    let mut end = tail;
+    for f in 0..SLOT_WORDS as u32 {
+        end = follow_word(copies, n, from, queue, head, tail, end, u, f);
     }
-    let d = trace::trace(&from, &mut queue, o);
-    trace::show(&queue, buffer, d);
-    trace::clear(buffer, d);
-    d as u32
+    end
+}
+
+// The search from the root until object o is found or nobody is left. Answers whether it was found.
+pub fn search(
+    copies: &[u32],
+    n: usize,
+    from: &mut [u32; MAX_OBJECTS],
+    queue: &mut [u32; MAX_OBJECTS],
+    o: u32,
+) -> bool
+    requires { ⌜ SearchedArea (now copies) n × Object n o × ((i : ℕ) → getD (now from) i 0 ≡ 0) × (objectCount maxPages ≤ length (now from)) × (objectCount maxPages ≤ length (now queue)) ⌝ }
+    ensures { λ r. ⌜ Ended (now (copies .entry)) n o (now (from .exit)) r × (objectCount maxPages ≤ length (now (queue .exit))) ⌝ }
+{
+    from[0] = ROOT;
+    queue[0] = ROOT;
+    let i = (o - 1) as usize;
+    let mut tail: usize = 1;
+    let mut head: usize = 0;
+    while head < tail {
+        if from[i] != 0 {
+            return true;
+        }
+        tail = follow(copies, n, from, queue, head, tail);
+        head += 1;
+    }
+    from[i] != 0
 }

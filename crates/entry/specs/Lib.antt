@@ -1,3 +1,2 @@
--- How the scans of the code give the tests of refusal 1.
-pub mod Scans
+-- Refusal 1 besides the lengths, test by test.
 pub mod Range

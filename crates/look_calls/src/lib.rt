@@ -31,10 +31,10 @@ pub fn held_chain(
         return Answer::Refused(Refusal::NotOpen);
     }
     let n = stored.len() / PAGE_WORDS;
-    let k = chain_search::chain_check(copies, n, o);
+    let k = chain_trace::chain_check(copies, n, o);
     match k {
         Check::Refuse(x) => Answer::Refused(x),
-        Check::Accept => Answer::Done(chain_search::chain_apply(copies, buffer, n, o)),
+        Check::Accept => Answer::Done(chain_trace::chain_apply(copies, buffer, n, o)),
     }
 }
 

@@ -74,11 +74,11 @@ pub fn held_back(
         return Answer::Refused(Refusal::NotOpen);
     }
     let n = stored.len() / PAGE_WORDS;
-    let k = marks::back_check(log, counts, work, n, t, m);
+    let k = going_back::back_check(log, counts, work, n, t, m);
     match k {
         Check::Refuse(x) => Answer::Refused(x),
         Check::Accept => {
-            marks::back_apply(received, log, counts, work, n, t, m);
+            going_back::back_apply(received, log, counts, work, n, t, m);
             Answer::Done(0)
         }
     }

@@ -1,6 +1,4 @@
--- Laws of marks and of going back: their order, the walk that undoes the changes since one, the tests and the outcomes.
+-- Laws of marks: their order, the tests and the outcome.
 pub mod Places
-pub mod Taking
-pub mod Going
 pub mod Checks
 pub mod Outcomes

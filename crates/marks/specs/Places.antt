@@ -1,19 +1,19 @@
--- The order of a transaction's marks, as the code changes it: moved up by a mark that is set again, dropped by going back. n is the number
--- of pages. Assumes nothing.
+-- The order of a transaction's marks, as a mark that is set changes it: later ones move up, and it becomes the last. n is the number of
+-- pages. Assumes nothing.
 use Prim.Native.Nat.{ℕ, _+_, _≤_}
 use mathlib.Core.Path.{_≡_, sym, ap, _∙_}
 use mathlib.Core.Bool.{not, _&&_}
 use mathlib.Core.List.{List}
 use lib.ListN.{set}
-use lib.Dec.{eqb, ltb}
+use lib.Dec.{eqb}
 use native.Mathlib.Numerals.{add-one}
 use native.Mathlib.Omega.{arith}
 use Rattle.words.specs.Tests.{if, count, count-same}
 use Rattle.words.specs.Counts.{count-most}
 use Rattle.words.specs.Spans.{over, over-outside}
-use Rattle.areas.specs.Layout.{markCount, markedAt, orderAt}
+use Rattle.areas.specs.Layout.{markCount, orderAt}
 use Rattle.areas.specs.Tables.{at}
-use Rattle.calls.specs.Marks.{orderOf, othersSet, movedUp, setLast, dropped}
+use Rattle.calls.specs.Marks.{othersSet, movedUp, setLast}
 use Rattle.store_ops.specs.Tables.{over-turn}
 
 -- how many of the first k marks but m are set, their places standing from word i
@@ -44,10 +44,3 @@ last-set w n t m f i o x ef ei ex eo =
     let d : i ≡ orderAt n t m = omega arith in
     let h : setBut w f m markCount ≡ othersSet w n t m = count-same _ _ markCount (λ j l. ap (λ (k : ℕ). not (eqb j m) && not (eqb (at w k) 0)) (omega arith)) in
     ap (λ (y : ℕ). set x i (y + 1)) (eo ∙ h) ∙ rw (ex, d, ef)
-
--- one mark dropped or kept
-pub dropped-next : (w : List ℕ) (n t a j : ℕ) (x y : List ℕ) → x ≡ dropped w n t a j →
-    y ≡ if (ltb a (orderOf x n t j)) (set (set x (markedAt n t j) 0) (orderAt n t j) 0) x → y ≡ dropped w n t a (j + 1)
-unfolding dropped
-dropped-next w n t a j x y h e =
-    e ∙ ap (λ (v : List ℕ). if (ltb a (orderOf v n t j)) (set (set v (markedAt n t j) 0) (orderAt n t j) 0) v) h ∙ ap (dropped w n t a) (sym (add-one j))

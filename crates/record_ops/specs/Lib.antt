@@ -1,6 +1,3 @@
--- What a record may ask of a page area, the pages that the last records name, and what transactions reserve as a walk down the log
--- finds it, turn by turn.
+-- What a record may ask of a page area, and the pages that the last records name.
 pub mod InRange
 pub mod Naming
-pub mod Turns
-pub mod Reserves

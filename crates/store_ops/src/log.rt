@@ -22,7 +22,7 @@ pub fn room_beyond(log: &[u32], counts: &[u32], work: &[u32], n: usize, k: usize
 {
     let c = counts[layout::RECEIVED] as usize;
     let from = layout::undoing_at(n, 0);
-    let held = record_ops::reserved(log, work, from, c, work[layout::ACTIVE_AT]) as usize;
+    let held = reserves::reserved(log, work, from, c, work[layout::ACTIVE_AT]) as usize;
     c + held + k <= log.len() / RECORD_WORDS
 }
 
@@ -33,7 +33,7 @@ pub fn changes_left(log: &[u32], counts: &[u32], work: &[u32], n: usize, t: u32)
     ensures { λ y. ⌜ (y ≡ length (leftIn (now (log .entry)) (now (counts .entry)) (now (work .entry)) n t)) × (y ≤ getD (now (counts .entry)) 0 0) ⌝ }
 {
     let c = counts[layout::RECEIVED] as usize;
-    record_ops::changes_left(log, work, layout::undoing_at(n, 0), c, t as usize)
+    reserves::changes_left(log, work, layout::undoing_at(n, 0), c, t as usize)
 }
 
 // A record received: written behind the others, counted, and shown by the received pages. Answers the new count.

@@ -6,7 +6,7 @@ use borrow.Author.Tests.{not-true, not-false, eqb-true}
 use mathlib.Core.Path.{sym, ap, _∙_}
 use Rattle.calls.specs.Marks.{callBack}
 use Rattle.store_ops.specs.Logs.{open-kept, open-undoing}
-use Rattle.marks.specs.Checks.{back-as, back-ready}
+use Rattle.going_back.specs.Checks.{back-as, back-ready}
 use borrow.Author.Needs.{needs}
 use Rattle.mark_calls.proofs.held_back.Statement.{statement}
 use Rattle.mark_calls.proofs.held_back.Tie as tie

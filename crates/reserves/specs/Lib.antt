@@ -1,0 +1,2 @@
+-- What transactions reserve, as a walk down the log finds it.
+pub mod Reserves
