@@ -10,7 +10,7 @@ use Rattle.calls.specs.Formatting.{formatted}
 use Rattle.calls.specs.Calls.{Call, pass, step, reopen}
 use Rattle.calls.specs.PassShares.{shareOf, callPassShare, passShareAfter}
 use Rattle.computing.specs.Calls.{calls}
-use Rattle.worked_examples.specs.Table.{sameWords, sameAreas, after}
+use Rattle.computing.specs.Stores.{sameWords, sameAreas, after}
 
 -- a row: pages, commits, the whole share and the remainder, by the definition alone; the same of the call, after these calls, which must all
 -- be accepted; or a call that is refused with this number, its buffer being this one

@@ -13,7 +13,7 @@ use Rattle.areas.specs.Tables.{at, passRuns}
 use Rattle.calls.specs.Formatting.{formatted, cut}
 use Rattle.calls.specs.Calls.{Call, begin, commit, abort, lockWrite, create, setWord, flush, force, store, empty, pass, step, reopen, restep, perform}
 use Rattle.computing.specs.Calls.{calls}
-use Rattle.worked_examples.specs.Table.{sameWords, sameAreas, refusedBy, after}
+use Rattle.computing.specs.Stores.{sameWords, sameAreas, refusedBy, after}
 
 -- an accepted step: its value, and the step number that it leaves
 pub data Taken : Type 0 where
