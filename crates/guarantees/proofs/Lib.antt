@@ -17,7 +17,11 @@ pub mod Cuts
 pub mod MarkOrder
 pub mod Committed
 pub mod Ledgers
+pub mod Closing
 pub mod Granted
+pub mod Tally
+pub mod Steps
+pub mod Shares
 pub mod Barred
 pub mod Holders
 pub mod MarkNotes
