@@ -12,6 +12,7 @@ pub mod Disks
 pub mod Refusals
 pub mod Stages
 pub mod Held
+pub mod Looked
 pub mod Chains
 pub mod Cuts
 pub mod MarkOrder

@@ -3,30 +3,27 @@
 use Prim.Native.Nat.{ℕ, zero, suc, _+_, _*_, _≤_, _<_, min}
 use native.Mathlib.Omega.{arith}
 use native.Mathlib.Nat.{div-add-mod, mod-lt, suc-mul, mul-comm}
-use mathlib.Core.Path.{_≡_, refl, sym, ap, _∙_, subst}
+use mathlib.Core.Path.{_≡_, refl, sym, ap, _∙_}
 use mathlib.Core.Bool.{true, false}
 use mathlib.Core.List.{List}
-use lib.ListN.{length}
 use lib.Dec.{eqb, ltb, leb}
 use borrow.Author.Tests.{ltb-true, ltb-false, leb-true, eqb-true, ne-eqb}
 use Rattle.words.specs.Tests.{if, sum, by-bool, and-split}
 use Rattle.areas.specs.declared.Answer.the-variants.{Done}
-use Rattle.areas.specs.Answers.{passed, valueOf, accepted}
+use Rattle.areas.specs.Answers.{passed, valueOf}
 use Rattle.areas.specs.Areas.{Areas, Out, done}
-use Rattle.areas.specs.Tables.{passRuns, passPages}
+use Rattle.areas.specs.Tables.{passRuns}
 use Rattle.calls.specs.Calls.{perform}
-use Rattle.calls.specs.Looks.{callLook}
 use Rattle.calls.specs.Objects.{ifAccepted}
-use Rattle.calls.specs.PassShares.{passBound, maxCommits, shareWords, shareWhole, shareRest, owed, shareOf, passShareTests, passShareLook, callPassShare, passShareAfter}
-use Rattle.acceptance.specs.Ran.{Ran}
-use Rattle.acceptance.specs.Looks.{look-outcome}
+use Rattle.calls.specs.PassShares.{passBound, maxCommits, shareWhole, shareRest, owed, shareOf, passShareTests, passShareLook, callPassShare, passShareAfter}
 use Rattle.book.specs.Feeding.{put}
 use Rattle.book.specs.Demand.{Event, call, power, Point, accepts, after}
 use Rattle.guarantees.specs.Ledgers.{kept}
-use Rattle.guarantees.specs.Steps.{Part, starts, steps, stops, commits, other, partOf, tallied, tally}
-use Rattle.guarantees.specs.Shares.{ShareIsACall, coveredIn, ShowsShare, ShareShown, SharesAddUp, Spread, unspread, spreading, spread, Shared, AlwaysShared}
+use Rattle.guarantees.specs.Steps.{Part, starts, steps, stops, commits, other, partOf, tallied, tally, coveredIn}
+use Rattle.guarantees.specs.Shares.{ShareIsACall, ShowsShare, ShareShown, SharesAddUp, Spread, unspread, spreading, spread, Shared, AlwaysShared}
 use Rattle.guarantees.proofs.Always.{Sure}
 use Rattle.guarantees.proofs.Ledgers.{always-kept}
+use Rattle.guarantees.proofs.Looked.{look-ran, look-gave}
 use Rattle.guarantees.proofs.Tally.{Stepping, keep-stepping, start-stepping, disk-stepping}
 use Rattle.guarantees.proofs.Steps.{below-so}
 
@@ -53,21 +50,13 @@ shares-add-up k m some =
 
 -- an accepted call
 module _ (s : Areas) (b : List ℕ) (m v : ℕ) (t : callPassShare s b m .answer ≡ Done v) where
-  was-accepted : accepted (callLook s (passShareLook b m) .answer) ≡ true
-  unfolding callPassShare
-  was-accepted = ap accepted t
-
-  ran : Ran true (eqb (length b) shareWords) s (λ n. passShareTests m) (callLook s (passShareLook b m)) (λ n. done (shareWhole (passPages (s .work) n) m) s)
-  unfolding passShareLook
-  ran = look-outcome s (passShareLook b m) .ran was-accepted
-
   gave : callPassShare s b m ≡ done (shareWhole (coveredIn s) m) s
-  unfolding callPassShare
-  gave = subst (λ (n : ℕ). callLook s (passShareLook b m) ≡ done (shareWhole (passPages (s .work) n) m) s) (sym (ran .ready .count)) (ran .gives)
+  unfolding callPassShare passShareLook
+  gave = look-gave s (passShareLook b m) v t
 
   range : (leb 1 m ≡ true) × (leb m maxCommits ≡ true)
-  unfolding passShareTests
-  range = and-split (leb 1 m) (leb m maxCommits) (passed _ 0 (ran .passed))
+  unfolding callPassShare passShareLook passShareTests
+  range = and-split (leb 1 m) (leb m maxCommits) (passed _ 0 (look-ran s (passShareLook b m) v t .passed))
 
   shows-share : ShowsShare s b m v
   unfolding passShareAfter

@@ -9,22 +9,17 @@ use Rattle.words.specs.Tests.{sum}
 use Rattle.areas.specs.declared.Answer.the-variants.{Done}
 use Rattle.areas.specs.Areas.{Areas}
 use Rattle.areas.specs.Layout.{stepsTop}
-use Rattle.areas.specs.Tables.{passRuns, passPages}
-use Rattle.areas.specs.Entry.{pages}
+use Rattle.areas.specs.Tables.{passRuns}
 use Rattle.calls.specs.PassShares.{maxCommits, shareWhole, shareRest, owed, passShareLook, callPassShare, passShareAfter}
 use Rattle.calls.specs.Calls.{perform, look}
 use Rattle.book.specs.Feeding.{put}
 use Rattle.book.specs.Demand.{Point}
 use Rattle.guarantees.specs.Ledgers.{Ledger, AlwaysKept}
-use Rattle.guarantees.specs.Steps.{Part, starts, steps, stops, commits, other, partOf}
+use Rattle.guarantees.specs.Steps.{Part, starts, steps, stops, commits, other, partOf, coveredIn}
 
 -- the call is one of those that demand 3's lists are made of: it only looks
 abbrev pub ShareIsACall : Type 0
 ShareIsACall = (s : Areas) (buffer : List ℕ) (m : ℕ) → perform s (look (passShareLook buffer m)) ≡ callPassShare s buffer m
-
--- the pages that a pass of the store covers
-abbrev pub coveredIn : Areas → ℕ
-coveredIn s = passPages (s .work) (pages s)
 
 -- accepted: 'the whole share, 17 × P + 1 divided by n, and its remainder r', of n 'commits, 1 to 4096'
 pub record ShowsShare (s : Areas) (buffer : List ℕ) (m v : ℕ) : Type 0 where
@@ -51,9 +46,11 @@ pub record Spread : Type 0 where
   pub made : ℕ
   pub after : ℕ → ℕ
 
+-- at the start, and after what ended the pass early: none
 abbrev pub unspread : Spread
 unspread = record { made = 0; after = λ i. 0 }
 
+-- after an accepted call: a step is one of those after the last commit
 abbrev pub spreading : Spread → Part → Spread
 spreading l starts = unspread
 spreading l steps = record { made = l .made; after = put (l .after) (l .made) (suc (l .after (l .made))) }
@@ -61,6 +58,7 @@ spreading l stops = unspread
 spreading l commits = record { made = suc (l .made); after = l .after }
 spreading l other = l
 
+-- kept from the list alone
 abbrev pub spread : Ledger Spread
 spread = record { first = unspread; enters = λ l c r. spreading l (partOf c); drops = λ l. unspread }
 

@@ -6,6 +6,7 @@ use Rattle.words.specs.Tests.{count}
 use Rattle.pages.specs.Geometry.{objectCount}
 use Rattle.areas.specs.declared.Answer.the-variants.{Refused}
 use Rattle.areas.specs.declared.Refusal.the-variants.{WrongState, LogFull}
+use Rattle.areas.specs.Areas.{Areas}
 use Rattle.areas.specs.Layout.{passPageAt, stepsAt}
 use Rattle.areas.specs.Tables.{at, passRuns, isMarking, isBlack, passFirst, passPages}
 use Rattle.areas.specs.Entry.{pages}
@@ -53,9 +54,13 @@ tallied l other = l
 abbrev pub tally : Ledger ℕ
 tally = record { first = 0; enters = λ l c r. tallied l (partOf c); drops = λ l. 0 }
 
--- the pages that the pass covers, and its bound by them
+-- the pages that a pass of the store covers
+abbrev pub coveredIn : Areas → ℕ
+coveredIn s = passPages (s .work) (pages s)
+
+-- the bound, by the pages that the pass covers
 abbrev pub boundAt : Point → ℕ
-boundAt q = passBound (passPages (q .store .work) (pages (q .store)))
+boundAt q = passBound (coveredIn (q .store))
 
 -- a scanned object is black
 abbrev pub scannedAt : Point → ℕ
