@@ -1,6 +1,6 @@
 /* A depot's day through the C functions: a dispenser with two valves, one of them replaced, what
- * leads to the old one, a pass that frees it, a meter layout that is tried and taken back, a page that
- * another has, a power cut in the middle of a job, and the start after it.
+ * leads to the old one, how a pass can be spread, a pass that frees it, a meter layout that is tried
+ * and taken back, a page that another has, a power cut in the middle of a job, and the start after it.
  * docs/CALLING.md explains the calls; examples/depot.rs is the same day in Rust. */
 #include <inttypes.h>
 #include <stdio.h>
@@ -149,6 +149,15 @@ static void replace_valve(uint32_t t)
     done(kophdaen_areas_commit(&depot, t));
 }
 
+/* How the steps of a pass can be spread over so many commits. */
+static void spread(uint32_t commits)
+{
+    uint32_t share[KOPHDAEN_SHARE_WORDS];
+    done(kophdaen_areas_pass_share(&depot, LENT(share), commits));
+    printf("a pass over %" PRIu32 " commits: %" PRIu32 " steps each, the first %" PRIu32 " one more\n", commits, share[0],
+           share[1]);
+}
+
 /* A whole pass; the number of slots that it freed. */
 static uint32_t collect(void)
 {
@@ -234,6 +243,7 @@ int main(void)
     empty_log();
     replace_valve(1);
     why();
+    spread(10);
     printf("slots freed: %" PRIu32 "\n", collect());
     lay_out(1);
     reach_dispenser(2);

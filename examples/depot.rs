@@ -1,9 +1,9 @@
 //! A depot's day through the Rust wrapper: a dispenser with two valves, one of them replaced, what
-//! leads to the old one, a pass that frees it, a meter layout that is tried and taken back, a page that
-//! another has, a power cut in the middle of a job, and the start after it.
+//! leads to the old one, how a pass can be spread, a pass that frees it, a meter layout that is tried
+//! and taken back, a page that another has, a power cut in the middle of a job, and the start after it.
 //! docs/CALLING.md explains the calls; examples/depot.c is the same day in C.
 
-use kophdaen::{Answer, Store, CHAIN_WORDS, OBJECT_WORDS, PAGE_WORDS, RECORD_WORDS};
+use kophdaen::{Answer, Store, CHAIN_WORDS, OBJECT_WORDS, PAGE_WORDS, RECORD_WORDS, SHARE_WORDS};
 
 const PAGES: usize = 4;
 const RECORDS: usize = 64;
@@ -142,6 +142,14 @@ impl Server {
         done(self.store.commit(t));
     }
 
+    /// How the steps of a pass can be spread over so many commits.
+    fn spread(&mut self, commits: u32) {
+        let mut share = [0; SHARE_WORDS];
+        done(self.store.pass_share(&mut share, commits));
+        let [each, more] = share;
+        println!("a pass over {commits} commits: {each} steps each, the first {more} one more");
+    }
+
     /// A whole pass; the number of slots that it freed.
     fn collect(&mut self) -> u32 {
         let mut freed = 0;
@@ -230,6 +238,7 @@ fn main() {
     server.empty_log();
     server.replace_valve(1);
     server.why();
+    server.spread(10);
     println!("slots freed: {}", server.collect());
     server.lay_out(1);
     server.reach_dispenser(2);

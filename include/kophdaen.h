@@ -12,7 +12,7 @@
  * does not overlap, its image or buffer neither with an area.
  *
  * A call answers  answer number * 2^32 + value : number 0 where accepted, else the number of the
- * refusal (1 to 16), with every buffer as it was. A refusal's value is 0, but that of 6, which is a
+ * refusal (1 to 17), with every buffer as it was. A refusal's value is 0, but that of 6, which is a
  * transaction that has the page: see the locks. Any words may be lent, but to the held calls.
  * docs/CALLING.md has the refusals, what to write to the disk and when, and names whole programs.
  */
@@ -31,6 +31,7 @@ extern "C" {
 #define KOPHDAEN_PAGE_WORDS 129u
 #define KOPHDAEN_OBJECT_WORDS 8u
 #define KOPHDAEN_CHAIN_WORDS 4096u
+#define KOPHDAEN_SHARE_WORDS 2u
 #define KOPHDAEN_RECORD_WORDS 6u
 #define KOPHDAEN_COUNTS_WORDS 2u
 #define KOPHDAEN_WORK_WORDS(pages, records) (134u + 67u * (pages) + (records))
@@ -172,6 +173,16 @@ uint64_t kophdaen_chain(
     const uint32_t *counts, size_t counts_words, const uint32_t *work, size_t work_words,
     uint32_t *chain, size_t chain_words, uint32_t object);
 
+/* Puts into share, of two words, what each of a number of commits, 1 to 4096, owes of the steps of a
+ * pass, so that it is over after the last: the whole share, (17 * P + 1) / commits, then the remainder;
+ * the first so many commits owe one step more. Answers 17 where commits is out of range. Value: the
+ * whole share. */
+uint64_t kophdaen_pass_share(
+    const uint32_t *stored, size_t stored_words, const uint32_t *copies, size_t copies_words,
+    const uint32_t *received, size_t received_words, const uint32_t *log, size_t log_words,
+    const uint32_t *counts, size_t counts_words, const uint32_t *work, size_t work_words,
+    uint32_t *share, size_t share_words, uint32_t commits);
+
 /* Whether every object that the root reaches is occupied, in one page area: stored, copies or
  * received. Reaches: the root, and what words 0 to 3 of a reached object name, where not 0; an object
  * above 16 * P is not occupied. Answers 1 where the length is not 129 * P. Takes 33 kB of stack.
@@ -183,7 +194,7 @@ uint64_t kophdaen_whole(const uint32_t *pages, size_t pages_words);
  *   - kophdaen_format has accepted the areas; or kophdaen_reopen has, with what a disk held, and
  *     kophdaen_whole then found the received pages whole (value 1), before the first reopening step;
  *   - since then only calls, lent or held, and cuts have changed the areas;
- *   - a read buffer has 8 words, an image 129, a chain's buffer 4096.
+ *   - a read buffer has 8 words, an image 129, a chain's buffer 4096, a share's 2.
  * A held call on anything else may do anything. Refusal 2 and all others are answered as ever. An
  * audit is a lent call that changes nothing, as kophdaen_lock_read with t = 16: it answers 1 only
  * where some word is out of range, else 2 or 3. */
@@ -205,6 +216,7 @@ __typeof__(kophdaen_start_pass) kophdaen_held_start_pass;
 __typeof__(kophdaen_pass_step) kophdaen_held_pass_step;
 __typeof__(kophdaen_reopen_step) kophdaen_held_reopen_step;
 __typeof__(kophdaen_chain) kophdaen_held_chain;
+__typeof__(kophdaen_pass_share) kophdaen_held_pass_share;
 
 /* The six areas as one value, and every call on it: what stands above, with the areas in one argument. */
 typedef struct kophdaen_areas {
@@ -333,6 +345,12 @@ static inline uint64_t kophdaen_areas_chain(
     return kophdaen_chain(KOPHDAEN_LENT(areas), chain, chain_words, object);
 }
 
+static inline uint64_t kophdaen_areas_pass_share(
+    const kophdaen_areas *areas, uint32_t *share, size_t share_words, uint32_t commits)
+{
+    return kophdaen_pass_share(KOPHDAEN_LENT(areas), share, share_words, commits);
+}
+
 /* .. and the held ones. */
 static inline uint64_t kophdaen_areas_held_begin(const kophdaen_areas *areas, uint32_t t)
 {
@@ -429,6 +447,12 @@ static inline uint64_t kophdaen_areas_held_chain(
     const kophdaen_areas *areas, uint32_t *chain, size_t chain_words, uint32_t object)
 {
     return kophdaen_held_chain(KOPHDAEN_LENT(areas), chain, chain_words, object);
+}
+
+static inline uint64_t kophdaen_areas_held_pass_share(
+    const kophdaen_areas *areas, uint32_t *share, size_t share_words, uint32_t commits)
+{
+    return kophdaen_held_pass_share(KOPHDAEN_LENT(areas), share, share_words, commits);
 }
 
 #undef KOPHDAEN_LENT

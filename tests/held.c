@@ -5,12 +5,12 @@
 
 #include "kophdaen.h"
 
-enum { PAGES = 2, RECORDS = 16, CALLS = 48 };
+enum { PAGES = 2, RECORDS = 16, CALLS = 52 };
 
 typedef struct store {
     uint32_t stored[PAGES * KOPHDAEN_PAGE_WORDS], copies[PAGES * KOPHDAEN_PAGE_WORDS], received[PAGES * KOPHDAEN_PAGE_WORDS];
     uint32_t records[RECORDS * KOPHDAEN_RECORD_WORDS], counts[KOPHDAEN_COUNTS_WORDS], work[KOPHDAEN_WORK_WORDS(PAGES, RECORDS)];
-    uint32_t buffer[KOPHDAEN_OBJECT_WORDS], chain[KOPHDAEN_CHAIN_WORDS];
+    uint32_t buffer[KOPHDAEN_OBJECT_WORDS], chain[KOPHDAEN_CHAIN_WORDS], share[KOPHDAEN_SHARE_WORDS];
     uint64_t codes[CALLS];
 } store;
 #define LENT(area) area, sizeof area / sizeof *area
@@ -33,7 +33,8 @@ static void expect(const char *what, int so)
     } while (0)
 
 /* An object is created under the root, with a word of its own, and is there after a reopening. Between, locks are refused, and
- * tell who has the page. At the end one more is created after a mark, and uncreated by going back. */
+ * tell who has the page, and a pass begins, whose share is told. At the end one more is created after a mark, and uncreated by
+ * going back. */
 static void work(const kophdaen_areas *a, store *s, int held)
 {
     uint64_t *code = s->codes;
@@ -65,11 +66,17 @@ static void work(const kophdaen_areas *a, store *s, int held)
     CALL(0, abort, a, 1);
     for (int record = 0; record < 9; record++) CALL(0, force, a);
     CALL(0, start_pass, a);
+    memset(s->share, 255, sizeof s->share);
+    CALL(17, pass_share, a, LENT(s->share), 4097);
+    expect("a refused share leaves its buffer", s->share[0] == UINT32_MAX && s->share[1] == UINT32_MAX);
+    CALL(0, pass_share, a, LENT(s->share), 10);
+    expect("the share of ten commits is 3, and 5", KOPHDAEN_VALUE(code[-1]) == 3 && s->share[0] == 3 && s->share[1] == 5);
     CALL(0, pass_step, a);
     CALL(0, store_page, a, 0);
     CALL(0, empty_log, a);
     expect("reopen is accepted", KOPHDAEN_ANSWER(kophdaen_areas_reopen(a)) == 0);
     CALL(2, begin, a, 0);
+    CALL(2, pass_share, a, LENT(s->share), 0);
     for (int page = 0; page <= PAGES; page++) CALL(0, reopen_step, a);
     CALL(0, begin, a, 0);
     CALL(0, lock_write, a, 0, 0);

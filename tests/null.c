@@ -42,6 +42,7 @@ int main(void)
     answers("read into no buffer", kophdaen_areas_read(&depot, NULL, 0, 0, 1), 1);
     answers("flush of no image", kophdaen_areas_flush(&depot, NULL, 0, 0, 0), 1);
     answers("chain into no buffer", kophdaen_areas_chain(&depot, NULL, 0, 1), 1);
+    answers("share into no buffer", kophdaen_areas_pass_share(&depot, NULL, 0, 1), 1);
     answers("whole of no pages", kophdaen_whole(NULL, 0), 1);
     return wrong;
 }

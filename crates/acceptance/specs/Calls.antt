@@ -12,6 +12,7 @@ use Rattle.areas.specs.Entry.{pages, records}
 use Rattle.calls.specs.Formatting.{formatted, formatTests, callFormat}
 use Rattle.calls.specs.Objects.{callRead, ifAccepted, bufferAfter}
 use Rattle.calls.specs.Chains.{callChain, chainAfter}
+use Rattle.calls.specs.PassShares.{callPassShare, passShareAfter}
 use Rattle.calls.specs.Calls.{Call, perform}
 use Rattle.calls.specs.Calls.Call.{begin, commit, abort, lockRead, lockWrite, read, create, setWord, flush, force, store, empty, pass, step, reopen, restep, mark, back, look}
 use Rattle.acceptance.specs.Ran.{Keeps, done-keeps, checked-keeps}
@@ -62,3 +63,7 @@ buffer-keeps s t o buffer e = buffer-by (callRead s t o buffer .answer) _ buffer
 pub chain-keeps : (s : Areas) (buffer : List ℕ) (o : ℕ) → accepted (callChain s buffer o .answer) ≡ false → chainAfter s buffer o ≡ buffer
 unfolding chainAfter
 chain-keeps s buffer o e = buffer-by (callChain s buffer o .answer) _ buffer e
+
+pub share-keeps : (s : Areas) (buffer : List ℕ) (m : ℕ) → accepted (callPassShare s buffer m .answer) ≡ false → passShareAfter s buffer m ≡ buffer
+unfolding passShareAfter
+share-keeps s buffer m e = buffer-by (callPassShare s buffer m .answer) _ buffer e

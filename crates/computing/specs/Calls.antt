@@ -28,6 +28,7 @@ use Rattle.calls.specs.Looks.{callLook}
 use Rattle.calls.specs.Marks.{othersSet, setLast, markTests, markSet, callMark, backTests, takenBack, wentBack, dropped, backTo, callBack}
 use Rattle.calls.specs.Objects.{readTests, learned, callRead, bufferAfter, createTests, created, callCreate, setTests, pruned, wordSet, callSet, flushTests, flushed, callFlush}
 use Rattle.calls.specs.Pass.{passTests, unflagged, passStarted, callPass, lowestGrey, targetsGreyed, scanned, marked, sweepMap, freedMap, advanced, sweepTests, sweptPage, swept, stepTests, callStep}
+use Rattle.calls.specs.PassShares.{passShareTests, passShareLook, callPassShare, passShareAfter}
 use Rattle.calls.specs.Reopening.{reopenTests, reopened, callReopen, restepTests, pageStored, reopeningOver, callRestep}
 use Rattle.calls.specs.Room.{roomBeyond}
 use Rattle.calls.specs.Stability.{forceTests, callForce, storeTests, callStore, emptyTests, callEmpty}
@@ -35,5 +36,5 @@ use Rattle.calls.specs.Transactions.{beginTests, begun, callBegin, withoutMarks
 
 -- what its line names opens with it; its value is of no use
 unfoldable pub calls : ℕ
-unfolding withBit withoutBit mapOf slotsSet over fill copied upTo same all any count sum lowest isRefAt cleared takenSlot freedSlot releasedIn formattedPages refsSound slotZero freeZero pageSound areaSound tabulate rowsOf withRows changesIn changesLeft reserved effect undone undoing lastNaming openIn logSound redone undoneIn recovered recoverable wordSound recordSound recordsSound lastOf found passing extended followed searched chainTo verdict appended wellFormed called lengthsFit rowsInRange workInRange countsInRange inRange greyed perform chainTests chainLook callChain chainAfter formatted formatTests callFormat cut holderOf lockReadTests readLocked callLockRead lockWriteTests writeLocked callLockWrite callLook othersSet setLast markTests markSet callMark backTests takenBack wentBack dropped backTo callBack readTests learned callRead bufferAfter createTests created callCreate setTests pruned wordSet callSet flushTests flushed callFlush passTests unflagged passStarted callPass lowestGrey targetsGreyed scanned marked sweepMap freedMap advanced sweepTests sweptPage swept stepTests callStep reopenTests reopened callReopen restepTests pageStored reopeningOver callRestep roomBeyond forceTests callForce storeTests callStore emptyTests callEmpty beginTests begun callBegin withoutMarks endedTables allFlushed commitTests committed callCommit rolledBack restored abortTests aborted callAbort
+unfolding withBit withoutBit mapOf slotsSet over fill copied upTo same all any count sum lowest isRefAt cleared takenSlot freedSlot releasedIn formattedPages refsSound slotZero freeZero pageSound areaSound tabulate rowsOf withRows changesIn changesLeft reserved effect undone undoing lastNaming openIn logSound redone undoneIn recovered recoverable wordSound recordSound recordsSound lastOf found passing extended followed searched chainTo verdict appended wellFormed called lengthsFit rowsInRange workInRange countsInRange inRange greyed perform chainTests chainLook callChain chainAfter formatted formatTests callFormat cut holderOf lockReadTests readLocked callLockRead lockWriteTests writeLocked callLockWrite callLook othersSet setLast markTests markSet callMark backTests takenBack wentBack dropped backTo callBack readTests learned callRead bufferAfter createTests created callCreate setTests pruned wordSet callSet flushTests flushed callFlush passTests unflagged passStarted callPass lowestGrey targetsGreyed scanned marked sweepMap freedMap advanced sweepTests sweptPage swept stepTests callStep passShareTests passShareLook callPassShare passShareAfter reopenTests reopened callReopen restepTests pageStored reopeningOver callRestep roomBeyond forceTests callForce storeTests callStore emptyTests callEmpty beginTests begun callBegin withoutMarks endedTables allFlushed commitTests committed callCommit rolledBack restored abortTests aborted callAbort
 calls = 0

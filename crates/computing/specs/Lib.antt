@@ -1,3 +1,4 @@
--- Definitions opened for proofs by computation, in one place.
+-- Definitions opened for proofs by computation, in one place, and what the tables of examples share.
 pub mod Calls
 pub mod Book
+pub mod Stores

@@ -30,7 +30,7 @@ use Rattle.collector.proofs.Facts.{MarkFacts}
 use Rattle.collector.proofs.Depths.{deep-pass, deep-mark, deep-turn, deep-skip}
 use Rattle.collector.proofs.Worlds.{Deep}
 use Rattle.collector.proofs.Steps.{steps-marking}
-use Rattle.machine_calls.specs.Tables.{phaseOf, locksOf, tablesOf}
+use Rattle.machine_calls.specs.Tables.{phaseOf, locksOf, tablesOf, passOf}
 use Rattle.machine_calls.proofs.Areas.{reference}
 use Rattle.machine_calls.proofs.Frames.{Beside, beside-over, beside-fill, beside-set, wider, later}
 use Rattle.machine_calls.proofs.Shows.{Shows}
@@ -69,12 +69,15 @@ module _ (n : ℕ) (some : 1 ≤ n) (s : Areas) (b : Book) (i : OpenInv n s b) (
   passing w st e j p q word behind locks kn = open-unlocked n s b i (s .copies) w st
       (record { shows = e; keeps = j; pages = p; tags = q; word = word; knows = λ t x k. ap (λ (f : ℕ → ℕ → Bool). f t x) kn ∙ k; cells = i .log .copies; notes = notes-kept n s b i (s .copies) w behind }) locks
 
+  pub start-passed : passOf (passStarted (s .work) n) n ≡ C.started (machine n s b) .pass
+  start-passed = start-pass n (s .work) (h .sized .tables .1) some (h .ranged .working .pruned)
+
   start-kept : OpenInv n (withWork s (passStarted (s .work) n)) b
   start-kept =
       let l = start-locks n (s .work) (h .sized .tables .1) some in
       let t = start-tables n (s .work) (h .sized .tables .1) some in
       passing (passStarted (s .work) n) (C.started (machine n s b))
-      (record { count = refl; locks = sym l; tables = sym t; pass = sym (start-pass n (s .work) (h .sized .tables .1) some (h .ranged .working .pruned)) })
+      (record { count = refl; locks = sym l; tables = sym t; pass = sym start-passed })
       (deep-pass (machine n s b) (i .going .stack) (i .going .deep)) refl refl
       (start-beside (s .work) n .below reopeningAt (omega arith)) (start-beside (s .work) n .above) l (ap (λ (a : Tables). a .kn) t)
 
@@ -102,6 +105,9 @@ module _ (n : ℕ) (some : 1 ≤ n) (s : Areas) (b : Book) (i : OpenInv n s b) (
       pub scan-same : locksOf (scanning s n .after .work) n ≡ locksOf (s .work) n
       scan-same = scan-locks n (s .copies) (s .work) grey refs (h .sized .tables .1) ok some room
 
+      pub scan-passed : passOf (scanning s n .after .work) n ≡ C.marked (machine n s b) grey .pass
+      scan-passed = scan-pass n (s .copies) (s .work) grey refs (h .sized .tables .1) ok some room
+
       pub scan-behind : Behind n (s .work) (scanning s n .after .work)
       scan-behind j l = pass-beside (scanned (s .copies) (s .work) n grey) 1 (at (s .work) passPageAt) (stepsNext (s .work) n) .above j (omega arith)
           ∙ scanned-other n (s .copies) (s .work) grey refs (h .sized .tables .1) ok j (behind-colours n j l)
@@ -111,7 +117,7 @@ module _ (n : ℕ) (some : 1 ≤ n) (s : Areas) (b : Book) (i : OpenInv n s b) (
           let len = h .sized .tables .1 in
           let t = scan-tables n (s .copies) (s .work) grey refs len ok some room in
           passing (withPass (scanned (s .copies) (s .work) n grey) 1 (at (s .work) passPageAt) (stepsNext (s .work) n)) (C.marked (machine n s b) grey)
-          (record { count = refl; locks = sym scan-same; tables = sym t; pass = sym (scan-pass n (s .copies) (s .work) grey refs len ok some room) })
+          (record { count = refl; locks = sym scan-same; tables = sym t; pass = sym scan-passed })
           (deep-mark grey (machine n s b) (i .going .stack) facts (i .going .deep)) refl refl
           (pass-beside (scanned (s .copies) (s .work) n grey) 1 (at (s .work) passPageAt) (stepsNext (s .work) n) .below reopeningAt (omega arith)
           ∙ scanned-other n (s .copies) (s .work) grey refs len ok reopeningAt (below-colours n reopeningAt (omega arith)))
@@ -124,15 +130,20 @@ module _ (n : ℕ) (some : 1 ≤ n) (s : Areas) (b : Book) (i : OpenInv n s b) (
     pub turn-behind : Behind n (s .work) (turning s n .after .work)
     turn-behind j l = pass-beside (s .work) 2 0 (stepsNext (s .work) n) .above j (omega arith)
 
-    pub turn-kept : leb (lowestGrey (s .work) n) (objectCount n) ≡ false → OpenInv n (turning s n .after) b
-    turn-kept g =
+    pub turn-passed : passOf (turning s n .after .work) n ≡ C.turned (machine n s b) .pass
+    turn-passed =
         let w = s .work in
         let room : at w stepsAt < stepsTop n =
         let e = i .collector .counted .scanned phase in let k = countb-most (objectCount n) (λ x. isBlack (machine n s b .pass .col (suc x))) in omega arith in
+        moved-pass n w 2 0 (stepsNext w n) (h .sized .tables .1) ∙ rw (steps-suc w n room) refl
+
+    pub turn-kept : leb (lowestGrey (s .work) n) (objectCount n) ≡ false → OpenInv n (turning s n .after) b
+    turn-kept g =
+        let w = s .work in
         let len = h .sized .tables .1 in
         let t = moved-tables n w 2 0 (stepsNext w n) len in
         passing (withPass w 2 0 (stepsNext w n)) (C.turned (machine n s b))
-        (record { count = refl; locks = sym turn-same; tables = sym t; pass = sym (moved-pass n w 2 0 (stepsNext w n) len ∙ rw (steps-suc w n room) refl) })
+        (record { count = refl; locks = sym turn-same; tables = sym t; pass = sym turn-passed })
         (deep-turn (machine n s b) (i .going .stack) (record { phase = phase; noGrey = λ o low top. no-grey w n g o }) (i .going .deep)) refl refl
         (pass-beside w 2 0 (stepsNext w n) .below reopeningAt (omega arith)) turn-behind turn-same (ap (λ (a : Tables). a .kn) t)
 
@@ -157,13 +168,16 @@ module _ (n : ℕ) (some : 1 ≤ n) (s : Areas) (b : Book) (i : OpenInv n s b) (
     pub advance-same : locksOf (advanced (s .work) n (at (s .work) passPageAt)) n ≡ locksOf (s .work) n
     advance-same = on-locks n (s .work) (h .sized .tables .1) sweep-room phase
 
+    pub advance-passed : passOf (advanced (s .work) n (at (s .work) passPageAt)) n ≡ C.advanced (machine n s b) .pass
+    advance-passed = on-pass n (s .work) (h .sized .tables .1) sweep-room phase
+
     pub skip-kept : eqb (sweepMapOf s n) 0 ≡ true → OpenInv n (sweeping s n .after) b
     skip-kept z =
         let w = s .work in
         let len = h .sized .tables .1 in
         let t = on-tables n w len sweep-room phase in
         rw z (passing (advanced w n (at w passPageAt)) (C.advanced (machine n s b))
-        (record { count = refl; locks = sym advance-same; tables = sym t; pass = sym (on-pass n w len sweep-room phase) })
+        (record { count = refl; locks = sym advance-same; tables = sym t; pass = sym advance-passed })
         (deep-skip (machine n s b) (i .going .stack) (record { phase = phase }) (i .going .deep)) refl refl
         advance-word advance-behind advance-same (ap (λ (a : Tables). a .kn) t))
 

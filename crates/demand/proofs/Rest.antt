@@ -82,7 +82,7 @@ module _ (n : ℕ) (w : List ℕ) (clear : (i : ℕ) → 2 ≤ i → at w i ≡ 
     dirty = λ t p. page-none (unflushedAt n) (λ q. omega arith) t p z;
   }
 
-  no-pass : passOf w n ≡ record { phase = idle; at = 0; steps = 0; col = λ o. white }
+  pub no-pass : passOf w n ≡ record { phase = idle; at = 0; steps = 0; col = λ o. white }
   no-pass = λ z. record { phase = phaseOf (clear 2 (omega arith) z); at = clear 3 (omega arith) z; steps = clear 4 (omega arith) z; col = λ x. colour-none x z }
 
 -- what is asked of such a store and its book

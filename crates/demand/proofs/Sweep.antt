@@ -44,7 +44,7 @@ use Rattle.machine_view.specs.View.{view, applied}
 use Rattle.machine_view.proofs.Places.{page-of-at, slot-of-at}
 use Rattle.machine_calls.specs.Tables.{phaseOf, locksOf, tablesOf}
 use Rattle.machine_pass.proofs.PassFacts.{unlocked-unwritten}
-use Rattle.machine_pass.proofs.Sweep.{deadAt-is, swept-view, on-tables, on-pass}
+use Rattle.machine_pass.proofs.Sweep.{deadAt-is, swept-view, on-tables}
 use Rattle.recovery_proof.proofs.Decided.{SameCells, some-first}
 use Rattle.recovery_proof.proofs.Invariant as Recovery
 use Rattle.machine_view.proofs.Effects.{view-occ}
@@ -65,7 +65,7 @@ use Rattle.book_laws.proofs.Sweeps.{sweep-released}
 use Rattle.demand.proofs.State.{machine, received, Going, OpenInv}
 use Rattle.demand.proofs.OneRecord.{Appends, log-after}
 use Rattle.demand.proofs.Change.{full-shown}
-use Rattle.demand.proofs.Passing.{sweep-room, advance-word, advance-behind, advance-same}
+use Rattle.demand.proofs.Passing.{advance-passed, sweep-room, advance-word, advance-behind, advance-same}
 use Rattle.demand.proofs.LeftRecords.{leftRecords}
 use Rattle.demand.proofs.Notes.{Behind, undoes-same, marks-same, left-other, fresh-more}
 use Rattle.demand.proofs.Going.{items-own, backs-past}
@@ -153,7 +153,7 @@ module _ (n : ℕ) (some : 1 ≤ n) (s : Areas) (b : Book) (i : OpenInv n s b) (
   machine-after = deep-same (C.swept (machine n s b) m) (machine n s′ b′) (i .going .stack) refl
       (λ z. record { cmt = λ x. committed-after x z .object; rec = λ x. full-after x z .object; cop = λ x. copies-after x z })
       (λ z. record { cmtTag = λ x. committed-after x z .tag; recTag = λ x. full-after x z .tag; now = suc m })
-      locks tables (on-pass n (s .work) (h .sized .tables .1) (sweep-room n some s b i h ph) ph)
+      locks tables (advance-passed n some s b i h ph)
       (deep-sweep m (machine n s b) (i .going .stack) (record { phase = ph; free = unwritten; line = omega arith }) (i .going .deep))
 
   act-same : (u : ℕ) → locksOf w n .act u ≡ locksOf (s .work) n .act u

@@ -13,7 +13,7 @@ use Rattle.pages.specs.Geometry as geometry
 use Rattle.pages.specs.Soundness.{areaSound}
 use Rattle.reach.specs.Chains.{Chain, root, link, Lower, Ahead, Least}
 use Rattle.reach.specs.Search.{found, searched, chainIn}
-use Rattle.areas.specs.Answers.{valueOf, accepted}
+use Rattle.areas.specs.Answers.{valueOf}
 use Rattle.areas.specs.Areas.{Areas, Out, done}
 use Rattle.areas.specs.Entry.{pages, reopening}
 use Rattle.areas.specs.Layout.{finished}
@@ -22,12 +22,12 @@ use Rattle.calls.specs.Looks.{callLook}
 use Rattle.calls.specs.Chains.{chainWords, chainTests, chainLook, callChain, shown, chainAfter}
 use Rattle.acceptance.specs.Ran.{Ran}
 use Rattle.acceptance.specs.Entered.{opened}
-use Rattle.acceptance.specs.Looks.{look-outcome}
 use Rattle.chain_laws.specs.Order.{link-length}
 use Rattle.chain_laws.specs.Links.{sound-within}
 use Rattle.chain_laws.specs.Searching.{chain-some}
 use Rattle.chain_laws.specs.Answers.{shown-least, shown-none, chain-reached, reached-chain}
 use Rattle.guarantees.specs.Chains.{Tells, ShowsLeast, ShowsNone, ChainShown, ChainReached, ChainOfRoot}
+use Rattle.guarantees.proofs.Looked.{look-ran, look-gave}
 
 -- what an accepted chain has found, and what it leaves
 pub record Facts (s : Areas) (buffer : List ℕ) (o v : ℕ) : Type 0 where
@@ -38,17 +38,13 @@ pub record Facts (s : Areas) (buffer : List ℕ) (o v : ℕ) : Type 0 where
   pub after : chainAfter s buffer o ≡ shown (chainIn (s .copies) (pages s) o)
 
 module _ (s : Areas) (b : List ℕ) (o v : ℕ) (t : Tells s b o v) where
-  was-accepted : accepted (callLook s (chainLook b o) .answer) ≡ true
-  unfolding callChain
-  was-accepted = ap accepted t
-
   ran : Ran true (eqb (length b) chainWords) s (λ n. chainTests s n o) (callLook s (chainLook b o)) (λ n. done (length (chainIn (s .copies) n o)) s)
-  unfolding chainLook
-  ran = look-outcome s (chainLook b o) .ran was-accepted
+  unfolding callChain chainLook
+  ran = look-ran s (chainLook b o) v t
 
   gave : callChain s b o ≡ done (length (chainIn (s .copies) (pages s) o)) s
-  unfolding callChain
-  gave = subst (λ (n : ℕ). callLook s (chainLook b o) ≡ done (length (chainIn (s .copies) n o)) s) (sym (ran .ready .count)) (ran .gives)
+  unfolding callChain chainLook
+  gave = look-gave s (chainLook b o) v t
 
   pub facts : Facts s b o v
   unfolding chainAfter

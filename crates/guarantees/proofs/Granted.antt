@@ -17,7 +17,7 @@ use Rattle.areas.specs.Areas.{Areas, Out}
 use Rattle.areas.specs.Layout.{phaseAt, reopeningAt, reopeningPageAt, finished, tableWords, undoingAt, workWords, markCount}
 use Rattle.areas.specs.Tables.{at}
 use Rattle.areas.specs.Entry.{pages, records}
-use Rattle.calls.specs.Calls.{Call, reopens, perform}
+use Rattle.calls.specs.Calls.{Call, perform}
 use Rattle.calls.specs.Calls.Call.{begin, commit, abort, lockRead, lockWrite, read, create, setWord, flush, force, store, empty, pass, step, reopen, restep, mark, back, look}
 use Rattle.calls.specs.Formatting.{formatted, cut}
 use Rattle.calls.specs.Locks.{readLocked, writeLocked}
@@ -56,17 +56,17 @@ use Rattle.machine_calls.proofs.TakenBack.{dropped-beside}
 use Rattle.machine_calls.proofs.Written.{set-locks}
 use Rattle.machine_pass.proofs.Start.{start-locks}
 use Rattle.demand.proofs.State.{OpenInv, Inv3}
-use Rattle.demand.proofs.Finished.{accepted-open}
 use Rattle.demand.proofs.Holds.{sweeping-phase}
 use Rattle.demand.proofs.HoldsWaiting.{step-entered, storing-opened}
-use Rattle.demand.proofs.Marks.{mark-beside, gone, open-back}
+use Rattle.demand.proofs.Marks.{mark-beside, gone}
 use Rattle.demand.proofs.Passing.{scan-same, turn-same, advance-same}
 use Rattle.demand.proofs.Rest.{no-locks}
 use Rattle.guarantees.specs.Disks.{fromDisk}
 use Rattle.guarantees.specs.Ledgers.{kept}
 use Rattle.guarantees.specs.Holders.{Granted, nothing, fallen, granting, grants, holds}
-use Rattle.guarantees.proofs.Always.{Sure, as-open, as-storing}
+use Rattle.guarantees.proofs.Always.{Sure, as-storing}
 use Rattle.guarantees.proofs.Through.{through}
+use Rattle.guarantees.proofs.Closing.{here, closed-after}
 
 pub record Agrees (n : ℕ) (w : List ℕ) (l : Granted) : Type 0 where
   pub writers : (u p : ℕ) → l .writes u p ≡ locksOf w n .wr u p
@@ -171,35 +171,32 @@ Closed b l = (b .stage ≡ Books.opened → ⊥) → (u p : ℕ) → holds l u p
 
 -- every accepted call
 module _ (n : ℕ) (some : 1 ≤ n) (s : Areas) (b : Book) (v : Inv3 n s b) (l : Granted) (g : Agrees n (s .work) l) where
-  here : (c : Call) → reopens c ≡ false → accepted (perform s c .answer) ≡ true → OpenInv n s b
-  here c r a = as-open n s b v (accepted-open s c r a)
-
   abbrev Leaves : Granted → Areas → Type 0
   Leaves k x = Agrees n (x .work) k
 
   pub accepted-agrees : (c : Call) → accepted (perform s c .answer) ≡ true → Agrees n (perform s c .after .work) (granting l c)
   unfolding perform begun committed aborted created wordSet flushed markSet backTo
-  accepted-agrees (begin t) a = through true s _ _ _ n (Leaves l) (begin-outcome s t) a (here (begin t) refl a .size)
+  accepted-agrees (begin t) a = through true s _ _ _ n (Leaves l) (begin-outcome s t) a (here n some s b v (begin t) refl a .size)
       (λ h k. let e = begin-locks (s .work) n t some (h .sized .tables .1) (begin-facts s n t k .txn) in agrees-same n (s .work) _ l (ap (λ (k : Locks). k .rd) e) (ap (λ (k : Locks). k .wr) e) g)
-  accepted-agrees (commit t) a = through true s _ _ _ n (Leaves (fallen l t)) (commit-outcome s t) a (here (commit t) refl a .size) (λ h k. end-agrees n (s .work) l g (h .sized .tables .1) t)
-  accepted-agrees (abort t) a = through true s _ _ _ n (Leaves (fallen l t)) (abort-outcome s t) a (here (abort t) refl a .size) (λ h k. end-agrees n (s .work) l g (h .sized .tables .1) t)
-  accepted-agrees (lockRead t p) a = through true s _ _ _ n (Leaves (granting l (lockRead t p))) (lock-read-outcome s t p) a (here (lockRead t p) refl a .size)
+  accepted-agrees (commit t) a = through true s _ _ _ n (Leaves (fallen l t)) (commit-outcome s t) a (here n some s b v (commit t) refl a .size) (λ h k. end-agrees n (s .work) l g (h .sized .tables .1) t)
+  accepted-agrees (abort t) a = through true s _ _ _ n (Leaves (fallen l t)) (abort-outcome s t) a (here n some s b v (abort t) refl a .size) (λ h k. end-agrees n (s .work) l g (h .sized .tables .1) t)
+  accepted-agrees (lockRead t p) a = through true s _ _ _ n (Leaves (granting l (lockRead t p))) (lock-read-outcome s t p) a (here n some s b v (lockRead t p) refl a .size)
       (λ h k. let f = lock-read-facts s n t p k in read-agrees n (s .work) l g (h .sized .tables .1) t p (f .page) (f .txn))
-  accepted-agrees (lockWrite t p) a = through true s _ _ _ n (Leaves (granting l (lockWrite t p))) (lock-write-outcome s t p) a (here (lockWrite t p) refl a .size)
+  accepted-agrees (lockWrite t p) a = through true s _ _ _ n (Leaves (granting l (lockWrite t p))) (lock-write-outcome s t p) a (here n some s b v (lockWrite t p) refl a .size)
       (λ h k. let f = lock-write-facts s n t p k in write-agrees n (s .work) l g (h .sized .tables .1) t p (f .page) (f .txn))
-  accepted-agrees (read t x buffer) a = through (eqb (length buffer) slotWords) s _ _ _ n (Leaves l) (read-outcome s t x buffer) a (here (read t x buffer) refl a .size)
+  accepted-agrees (read t x buffer) a = through (eqb (length buffer) slotWords) s _ _ _ n (Leaves l) (read-outcome s t x buffer) a (here n some s b v (read t x buffer) refl a .size)
       (λ h k. let f = read-facts s n t x k in kept-locks n (s .work) _ l (read-locks (s .received) (s .work) n t x (h .ranged .received-sound) (f .object .low) (f .object .top)) g)
-  accepted-agrees (create t x) a = through true s _ _ _ n (Leaves l) (create-outcome s t x) a (here (create t x) refl a .size)
+  accepted-agrees (create t x) a = through true s _ _ _ n (Leaves l) (create-outcome s t x) a (here n some s b v (create t x) refl a .size)
       (λ h k. let f = create-facts s n t x k in kept-locks n (s .work) _ l (create-locks (s .work) n t x (f .object .low) (f .object .top)) g)
-  accepted-agrees (setWord t x f v) a = through true s _ _ _ n (Leaves l) (set-outcome s t x f v) a (here (setWord t x f v) refl a .size)
-      (λ h k. let d = set-facts s n t x f v k in kept-locks n (s .work) _ l (set-locks (s .received) (s .work) n t x f v (h .ranged .received-sound) (d .object .low) (d .object .top) (d .field)) g)
-  accepted-agrees (flush t p image) a = through (eqb (length image) pageWords) s _ _ _ n (Leaves l) (flush-outcome s t p image) a (here (flush t p image) refl a .size)
+  accepted-agrees (setWord t x f y) a = through true s _ _ _ n (Leaves l) (set-outcome s t x f y) a (here n some s b v (setWord t x f y) refl a .size)
+      (λ h k. let d = set-facts s n t x f y k in kept-locks n (s .work) _ l (set-locks (s .received) (s .work) n t x f y (h .ranged .received-sound) (d .object .low) (d .object .top) (d .field)) g)
+  accepted-agrees (flush t p image) a = through (eqb (length image) pageWords) s _ _ _ n (Leaves l) (flush-outcome s t p image) a (here n some s b v (flush t p image) refl a .size)
       (λ h k. kept-locks n (s .work) _ l (flush-locks (s .work) n t p (flush-facts s n t p image k .page)) g)
-  accepted-agrees force a = through true s _ _ _ n (Leaves l) (force-outcome s) a (here force refl a .size) (λ h k. g)
-  accepted-agrees (store p) a = through true s _ _ _ n (Leaves l) (store-outcome s p) a (here (store p) refl a .size) (λ h k. g)
-  accepted-agrees empty a = through true s _ _ _ n (Leaves l) (empty-outcome s) a (here empty refl a .size) (λ h k. kept-locks n (s .work) _ l (emptied-locks n s) g)
-  accepted-agrees pass a = through true s _ _ _ n (Leaves l) (pass-outcome s) a (here pass refl a .size) (λ h k. kept-locks n (s .work) _ l (start-locks n (s .work) (h .sized .tables .1) some) g)
-  accepted-agrees step a = let i = here step refl a in
+  accepted-agrees force a = through true s _ _ _ n (Leaves l) (force-outcome s) a (here n some s b v force refl a .size) (λ h k. g)
+  accepted-agrees (store p) a = through true s _ _ _ n (Leaves l) (store-outcome s p) a (here n some s b v (store p) refl a .size) (λ h k. g)
+  accepted-agrees empty a = through true s _ _ _ n (Leaves l) (empty-outcome s) a (here n some s b v empty refl a .size) (λ h k. kept-locks n (s .work) _ l (emptied-locks n s) g)
+  accepted-agrees pass a = through true s _ _ _ n (Leaves l) (pass-outcome s) a (here n some s b v pass refl a .size) (λ h k. kept-locks n (s .work) _ l (start-locks n (s .work) (h .sized .tables .1) some) g)
+  accepted-agrees step a = let i = here n some s b v step refl a in
       let k = step-outcome s .ran a in
       let p = opened true s (k .n) (k .ready) in
       let e : k .n ≡ n = sym (p .sized .count) ∙ i .size in
@@ -207,36 +204,18 @@ module _ (n : ℕ) (some : 1 ≤ n) (s : Areas) (b : Book) (v : Inv3 n s b) (l :
       step-agrees n some s b i (rw e at p) (step-facts s (k .passed) .one-runs) l g (callStep s) (step-way s n (callStep s) a d)
   accepted-agrees reopen a = rw (ap (λ (x : Out). x .after .work) (reopen-ran s a .gives)) (clear-agrees n _ (reopen-clear s))
   accepted-agrees restep a = restep-agrees n some s b v a l g
-  accepted-agrees (mark t m) a = through true s _ _ _ n (Leaves l) (mark-outcome s t m) a (here (mark t m) refl a .size)
+  accepted-agrees (mark t m) a = through true s _ _ _ n (Leaves l) (mark-outcome s t m) a (here n some s b v (mark t m) refl a .size)
       (λ h k. let f = mark-facts s t m k in
       kept-locks n (s .work) _ l (locks-kept (mark-beside (s .work) n t m _ (f .txn) (f .mark) (let e = h .sized .work-len in omega arith)) n (inr (omega arith))) g)
-  accepted-agrees (back t m) a = let i = here (back t m) refl a in through true s _ _ _ n (Leaves l) (back-outcome s t m) a (i .size)
+  accepted-agrees (back t m) a = let i = here n some s b v (back t m) refl a in through true s _ _ _ n (Leaves l) (back-outcome s t m) a (i .size)
       (λ h k. let f = back-facts s n t m k in
       kept-locks n (s .work) _ l (locks-kept (dropped-beside _ n t _ markCount (f .txn) (omega arith)) n (inr (omega arith)) ∙ gone n some s b i h t m f .locks) g)
   accepted-agrees (look q) a = rw (look-keeps s q) g
 
-  -- only a reopening and its steps change the stage of the book
   accepted-closed : Closed b l → (c : Call) → accepted (perform s c .answer) ≡ true → (r : List ℕ) → Closed (fed n b c (s .received) r) (granting l c)
-  unfolding fed perform
-  accepted-closed f (begin t) a r shut = absurd (shut (here (begin t) refl a .stage))
-  accepted-closed f (commit t) a r shut = absurd (shut (here (commit t) refl a .stage))
-  accepted-closed f (abort t) a r shut = absurd (shut (here (abort t) refl a .stage))
-  accepted-closed f (lockRead t p) a r shut = absurd (shut (here (lockRead t p) refl a .stage))
-  accepted-closed f (lockWrite t p) a r shut = absurd (shut (here (lockWrite t p) refl a .stage))
-  accepted-closed f (read t x buffer) a r shut = absurd (shut (here (read t x buffer) refl a .stage))
-  accepted-closed f (create t x) a r shut = absurd (shut (here (create t x) refl a .stage))
-  accepted-closed f (setWord t x y w) a r shut = absurd (shut (here (setWord t x y w) refl a .stage))
-  accepted-closed f (flush t p image) a r shut = absurd (shut (here (flush t p image) refl a .stage))
-  accepted-closed f force a r shut = absurd (shut (here force refl a .stage))
-  accepted-closed f (store p) a r shut = absurd (shut (here (store p) refl a .stage))
-  accepted-closed f empty a r shut = absurd (shut (here empty refl a .stage))
-  accepted-closed f pass a r shut = absurd (shut (here pass refl a .stage))
-  accepted-closed f step a r shut = absurd (shut (here step refl a .stage))
-  accepted-closed f reopen a r shut = λ u p. refl
-  accepted-closed f restep a r shut = f (λ e. storing-opened (sym (as-storing n s b v a .1 .stage) ∙ e))
-  accepted-closed f (mark t m) a r shut = absurd (shut (here (mark t m) refl a .stage))
-  accepted-closed f (back t m) a r shut = absurd (shut (open-back n some s b (here (back t m) refl a) t m a .stage))
-  accepted-closed f (look q) a r shut = absurd (shut (here (look q) refl a .stage))
+  unfolding perform
+  accepted-closed f = closed-after n some s b v (λ c. (u p : ℕ) → holds (granting l c) u p ≡ false) (λ a u p. refl)
+      (λ a. f (λ e. storing-opened (sym (as-storing n s b v a .1 .stage) ∙ e)))
 
 -- the invariant: the masks are the ledger's, and where the store is not open nobody has a page
 pub record Ledgered (n : ℕ) (q : Point) (l : Granted) : Type 0 where

@@ -12,12 +12,17 @@ pub mod Disks
 pub mod Refusals
 pub mod Stages
 pub mod Held
+pub mod Looked
 pub mod Chains
 pub mod Cuts
 pub mod MarkOrder
 pub mod Committed
 pub mod Ledgers
+pub mod Closing
 pub mod Granted
+pub mod Tally
+pub mod Steps
+pub mod Shares
 pub mod Barred
 pub mod Holders
 pub mod MarkNotes

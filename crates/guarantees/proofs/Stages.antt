@@ -9,7 +9,7 @@ use Rattle.areas.specs.Layout.{finished, running}
 use Rattle.areas.specs.Entry.{reopening, called-passed}
 use Rattle.calls.specs.Calls.{perform}
 use Rattle.calls.specs.Reopening.{restepTests, callRestep}
-use Rattle.acceptance.specs.Calls.{refused-keeps, format-keeps, buffer-keeps, chain-keeps}
+use Rattle.acceptance.specs.Calls.{refused-keeps, format-keeps, buffer-keeps, chain-keeps, share-keeps}
 use Rattle.book.specs.Books as Books
 use Rattle.book.specs.Books.{Book, storing}
 use Rattle.demand.proofs.State.{Inv3, open-store, cut-store, reopening-store}
@@ -45,4 +45,4 @@ always-in-stage = always InStage (λ n some q u. record {
 })
 
 pub refusals-change-nothing : RefusalsChangeNothing
-refusals-change-nothing = record { calls = refused-keeps; format = format-keeps; buffer = buffer-keeps; chain = chain-keeps }
+refusals-change-nothing = record { calls = refused-keeps; format = format-keeps; buffer = buffer-keeps; chain = chain-keeps; share = share-keeps }

@@ -11,3 +11,5 @@ pub mod Cuts
 pub mod Ledgers
 pub mod Holders
 pub mod Restoring
+pub mod Steps
+pub mod Shares

@@ -15,6 +15,7 @@ ghost use Rattle.calls.specs.Pass.{callPass, callStep};
 ghost use Rattle.calls.specs.Reopening.{callRestep};
 ghost use Rattle.calls.specs.Marks.{callMark, callBack};
 ghost use Rattle.calls.specs.Chains.{chainWords, callChain, chainAfter};
+ghost use Rattle.calls.specs.PassShares.{shareWords, callPassShare, passShareAfter};
 ghost use Rattle.codes.specs.Codes.{coded};
 use codes::code;
 
@@ -367,5 +368,35 @@ pub extern "C" fn kophdaen_held_chain(
     ensures { λ _. ⌜ now (chain .exit) ≡ chainAfter (areas (now (stored .entry)) (now (copies .entry)) (now (received .entry)) (now (log .entry)) (now (counts .entry)) (now (work .entry))) (now (chain .entry)) o ⌝ }
 {
     let a = look_calls::held_chain(stored, copies, received, log, counts, work, chain, o);
+    code(a)
+}
+
+// Puts what each of a number of commits owes of the steps of a pass into the buffer.
+#[no_mangle]
+pub extern "C" fn kophdaen_held_pass_share(
+    stored: &[u32],
+    copies: &[u32],
+    received: &[u32],
+    log: &[u32],
+    counts: &[u32],
+    work: &[u32],
+    share: &mut [u32],
+    commits: u32,
+) -> u64
+    requires { ⌜ wellFormed (eqb (length (now share)) shareWords) (areas (now stored) (now copies) (now received) (now log) (now counts) (now work)) ≡ true ⌝ }
+    ensures { λ r. ⌜ r ≡ coded (callPassShare (areas (now (stored .entry)) (now (copies .entry)) (now (received .entry)) (now (log .entry)) (now (counts .entry)) (now (work .entry))) (now (share .entry)) commits .answer) ⌝ }
+    ensures { λ _. ⌜ areas (now (stored .exit)) (now (copies .exit)) (now (received .exit)) (now (log .exit)) (now (counts .exit)) (now (work .exit)) ≡ callPassShare (areas (now (stored .entry)) (now (copies .entry)) (now (received .entry)) (now (log .entry)) (now (counts .entry)) (now (work .entry))) (now (share .entry)) commits .after ⌝ }
+    ensures { λ _. ⌜ now (share .exit) ≡ passShareAfter (areas (now (stored .entry)) (now (copies .entry)) (now (received .entry)) (now (log .entry)) (now (counts .entry)) (now (work .entry))) (now (share .entry)) commits ⌝ }
+{
+    let a = look_calls::shares::held_pass_share(
+        stored,
+        copies,
+        received,
+        log,
+        counts,
+        work,
+        share,
+        commits,
+    );
     code(a)
 }

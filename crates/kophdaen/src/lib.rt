@@ -10,6 +10,7 @@ ghost use Rattle.calls.specs.Pass.{callPass, callStep};
 ghost use Rattle.calls.specs.Reopening.{callReopen, callRestep};
 ghost use Rattle.calls.specs.Marks.{callMark, callBack};
 ghost use Rattle.calls.specs.Chains.{callChain, chainAfter};
+ghost use Rattle.calls.specs.PassShares.{callPassShare, passShareAfter};
 ghost use Rattle.codes.specs.Codes.{coded};
 use codes::code;
 
@@ -381,5 +382,34 @@ pub extern "C" fn kophdaen_chain(
     ensures { λ _. ⌜ now (chain .exit) ≡ chainAfter (areas (now (stored .entry)) (now (copies .entry)) (now (received .entry)) (now (log .entry)) (now (counts .entry)) (now (work .entry))) (now (chain .entry)) o ⌝ }
 {
     let a = look_calls::chain(stored, copies, received, log, counts, work, chain, o);
+    code(a)
+}
+
+// Puts what each of a number of commits owes of the steps of a pass into the buffer.
+#[no_mangle]
+pub extern "C" fn kophdaen_pass_share(
+    stored: &[u32],
+    copies: &[u32],
+    received: &[u32],
+    log: &[u32],
+    counts: &[u32],
+    work: &[u32],
+    share: &mut [u32],
+    commits: u32,
+) -> u64
+    ensures { λ r. ⌜ r ≡ coded (callPassShare (areas (now (stored .entry)) (now (copies .entry)) (now (received .entry)) (now (log .entry)) (now (counts .entry)) (now (work .entry))) (now (share .entry)) commits .answer) ⌝ }
+    ensures { λ _. ⌜ areas (now (stored .exit)) (now (copies .exit)) (now (received .exit)) (now (log .exit)) (now (counts .exit)) (now (work .exit)) ≡ callPassShare (areas (now (stored .entry)) (now (copies .entry)) (now (received .entry)) (now (log .entry)) (now (counts .entry)) (now (work .entry))) (now (share .entry)) commits .after ⌝ }
+    ensures { λ _. ⌜ now (share .exit) ≡ passShareAfter (areas (now (stored .entry)) (now (copies .entry)) (now (received .entry)) (now (log .entry)) (now (counts .entry)) (now (work .entry))) (now (share .entry)) commits ⌝ }
+{
+    let a = look_calls::shares::pass_share(
+        stored,
+        copies,
+        received,
+        log,
+        counts,
+        work,
+        share,
+        commits,
+    );
     code(a)
 }

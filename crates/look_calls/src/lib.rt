@@ -1,4 +1,6 @@
-// The calls that only look at the store: refusal 1, then the call on a store that is known to be well formed.
+// The calls that only look at the store: refusal 1, then the call on a store that is known to be well formed. Here the chain of references.
+pub mod shares;
+
 ghost use mathlib.Core.Path.{_≡_};
 ghost use mathlib.Core.Bool.{true};
 ghost use lib.ListN.{length};

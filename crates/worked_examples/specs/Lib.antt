@@ -1,6 +1,3 @@
--- The examples that document 01 marks to be proved, and examples of what document 02 adds.
+-- The examples that document 01 marks to be proved, and the numbers of all tests.
 pub mod Table
 pub mod Numbers
-pub mod Chains
-pub mod Holders
-pub mod Marks

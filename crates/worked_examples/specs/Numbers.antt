@@ -15,6 +15,7 @@ use Rattle.calls.specs.Stability.{forceTests, storeTests, emptyTests}
 use Rattle.calls.specs.Pass.{passTests, sweepTests, stepTests}
 use Rattle.calls.specs.Reopening.{reopenTests, restepTests}
 use Rattle.calls.specs.Chains.{chainTests}
+use Rattle.calls.specs.PassShares.{passShareTests}
 use Rattle.calls.specs.Marks.{markTests, backTests}
 
 -- the tests of every call, on any areas and with any arguments
@@ -42,6 +43,7 @@ everyCall s n t m p o f v image =
     ∷ chainTests s n o
     ∷ markTests s t m
     ∷ backTests s n t m
+    ∷ passShareTests v
     ∷ []
 
 -- each of several lists of tests has its refusals' numbers
@@ -50,5 +52,5 @@ allNumbered [] = true
 allNumbered (ts ∷ rest) = numbered ts && allNumbered rest
 
 pub numbers-right : (s : Areas) (n t m p o f v : ℕ) (image : List ℕ) → allNumbered (everyCall s n t m p o f v image) ≡ true
-unfolding allNumbered numbered formatTests beginTests commitTests abortTests lockReadTests lockWriteTests readTests createTests setTests flushTests forceTests storeTests emptyTests passTests stepTests sweepTests reopenTests restepTests chainTests markTests backTests
+unfolding allNumbered numbered formatTests beginTests commitTests abortTests lockReadTests lockWriteTests readTests createTests setTests flushTests forceTests storeTests emptyTests passTests stepTests sweepTests reopenTests restepTests chainTests markTests backTests passShareTests
 numbers-right s n t m p o f v image = refl

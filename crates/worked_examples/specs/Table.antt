@@ -3,18 +3,17 @@
 -- Assumes nothing.
 use Prim.Native.Nat.{ℕ}
 use mathlib.Core.Path.{_≡_, refl}
-use mathlib.Core.Bool.{Bool, true, false, _&&_}
+use mathlib.Core.Bool.{Bool, true, _&&_}
 use mathlib.Core.List.{List, [], _∷_}
 use lib.ListN.{set, take, replicate}
-use lib.Dec.{eqb}
-use Rattle.areas.specs.Answers.{answerOf, valueOf, accepted}
 use Rattle.areas.specs.Areas.{Areas, areas}
 use Rattle.calls.specs.Formatting.{formatted}
 use Rattle.calls.specs.Objects.{bufferAfter}
-use Rattle.calls.specs.Calls.{Call, begin, commit, lockWrite, read, create, setWord, flush, store, empty, reopen, perform}
+use Rattle.calls.specs.Calls.{Call, begin, commit, lockWrite, read, create, setWord, flush, store, empty, reopen}
 use Rattle.texts.specs.Text.{bytes}
 use Rattle.bench_run.specs.Bench.{benchStore, benchOutput}
 use Rattle.computing.specs.Calls.{calls}
+use Rattle.computing.specs.Stores.{sameWords, sameAreas, refusedBy, after}
 use Rattle.texts.specs.Same.{same as same-texts}
 use Rattle.texts.specs.Lines.{linesOf}
 use Rattle.texts.specs.Fields.{fieldsOf}
@@ -25,19 +24,6 @@ use Rattle.bench_commands.specs.Commands.{numbersFrom, commandOf}
 use Rattle.bench_output.specs.Output.{outputLine}
 use Rattle.bench_run.specs.Bench.{pageSent, transactionCall, lockCall, objectCall, stabilityCall, passCall, reopeningCall, benchCall, outputFrom}
 
--- two lists of words are the same; two stores are
-unfoldable pub sameWords : List ℕ → List ℕ → Bool
-sameWords [] [] = true
-sameWords [] (y ∷ ys) = false
-sameWords (x ∷ xs) [] = false
-sameWords (x ∷ xs) (y ∷ ys) = let on = sameWords xs ys in eqb x y && on
-
--- all six areas agree, word by word
-unfoldable pub sameAreas : Areas → Areas → Bool
-sameAreas a b =
-    sameWords (a .stored) (b .stored) && sameWords (a .copies) (b .copies) && sameWords (a .received) (b .received)
-    && sameWords (a .log) (b .log) && sameWords (a .counts) (b .counts) && sameWords (a .work) (b .work)
-
 -- a row: a store, the calls before, which must all be accepted, and a call that is refused with this number, or with 6 and this holder; a
 -- refused read, with its transaction, its object and its buffer; or an input and its output
 pub data Row : Type 0 where
@@ -46,18 +32,9 @@ pub data Row : Type 0 where
   refusedRead : ℕ → Areas → List Call → ℕ → ℕ → List ℕ → Row
   bench : List ℕ → List ℕ → Row
 
--- the last call is refused with this number and this value, and every word stays
-unfoldable pub refusedBy : ℕ → ℕ → Areas → Call → Bool
-refusedBy x v s c = let o = perform s c in eqb (answerOf (o .answer)) x && eqb (valueOf (o .answer)) v && sameAreas (o .after) s
-
 -- 'every buffer keeps its bytes': a read's too
 unfoldable pub readRefusedBy : ℕ → Areas → ℕ → ℕ → List ℕ → Bool
 readRefusedBy x s t o buffer = refusedBy x 0 s (read t o buffer) && sameWords (bufferAfter s t o buffer) buffer
-
--- these calls are accepted, and then the test holds of the store
-unfoldable pub after : List Call → (Areas → Bool) → Areas → Bool
-after [] f s = f s
-after (b ∷ bs) f s = let o = perform s b in let on = after bs f (o .after) in accepted (o .answer) && on
 
 -- a row of the table is right
 unfoldable pub right : Row → Bool

@@ -99,6 +99,7 @@ pub fn cases(size: Size, fill: Fill) -> Vec<Case> {
     passes(&base, &mut list);
     reopening(&base, &mut list);
     chains(&base, &mut list);
+    shares(&base, &mut list);
     list
 }
 
@@ -265,4 +266,10 @@ fn chains(base: &Base, list: &mut Vec<Case>) {
     let state = &base.flushed;
     let last = Call::Chain(last_found(&state.copies, true));
     add_three(list, "chain", (state, last), 15, (state, Call::Chain(free_object(state))));
+}
+
+/// Of ten commits; refused where there are none.
+fn shares(base: &Base, list: &mut Vec<Case>) {
+    let state = &base.flushed;
+    add_three(list, "pass_share", (state, Call::PassShare(10)), 17, (state, Call::PassShare(0)));
 }

@@ -5,7 +5,7 @@ use crate::report::{duration, head, line, Table};
 /// By the name of its case: what the call looks at, what it writes, and which sentences of the definition need
 /// it. A record has 6 words, of which a walk for what is left looks at the transaction; where it is one that is
 /// walked for, at the kind too, and at the record's undoing word.
-const CALLS: [(&str, &str, &str, &str); 20] = [
+const CALLS: [(&str, &str, &str, &str); 21] = [
     (
         "begin",
         "3 words; 1 to 3 × R; 16 × P masks",
@@ -120,6 +120,7 @@ const CALLS: [(&str, &str, &str, &str); 20] = [
         "2; 15: the copies' map. Of the chains with the fewest links the one with the lower object at the first \
          difference: the search finds objects in that order of their chains",
     ),
+    ("pass_share", "1 word", "the buffer's 2", "2; 17: the number of commits. P, from a length, and that number make the share"),
 ];
 
 /// With the times of a full log.

@@ -6,11 +6,12 @@
 mod sides;
 mod table;
 
-use kophdaen::{CHAIN_WORDS, OBJECT_WORDS};
+use kophdaen::{CHAIN_WORDS, OBJECT_WORDS, SHARE_WORDS};
 pub use sides::{Server, Side};
 pub use table::{Call, NAMES};
 
-/// What a call may be lent beside the areas: read and chain take the buffer, flush the image.
+/// What a call may be lent beside the areas: read, chain and share take the buffer, flush the
+/// image.
 pub struct Lent<'a> {
     pub buffer: &'a mut [u32],
     pub image: &'a [u32],
@@ -22,6 +23,7 @@ impl Call {
         match self {
             Call::Read(..) => OBJECT_WORDS,
             Call::Chain(..) => CHAIN_WORDS,
+            Call::PassShare(..) => SHARE_WORDS,
             _ => 0,
         }
     }

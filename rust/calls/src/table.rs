@@ -7,7 +7,7 @@ use crate::Lent;
 
 /// A line has the variant with its numbers, the call's name, and the method that both sides have for it, with
 /// what it is lent before the numbers; then `lent` if it has no held form. The name is the bench program's, but
-/// for chain, mark and back, of which that has no line.
+/// for chain, mark, back and share, of which that has no line.
 macro_rules! calls {
     ($( $call:ident $(($($number:ident),+))?, $name:literal, $method:ident $([$lent:ident])? $(, $form:ident)?; )*) => {
         #[derive(Clone, Copy, Debug, PartialEq, Eq)]
@@ -90,4 +90,5 @@ calls! {
     Chain(object), "chain", chain[buffer];
     Mark(t, mark), "mark", mark;
     Back(t, mark), "back", back;
+    PassShare(commits), "share", pass_share[buffer];
 }

@@ -1,7 +1,7 @@
 use std::fmt;
 
 use crate::lend::*;
-use crate::{Answer, Store, CHAIN_WORDS, OBJECT_WORDS, PAGE_WORDS, RECORD_WORDS};
+use crate::{Answer, Store, CHAIN_WORDS, OBJECT_WORDS, PAGE_WORDS, RECORD_WORDS, SHARE_WORDS};
 
 /// Why a store is not held.
 #[derive(Clone, Copy, PartialEq, Eq, Debug)]
@@ -217,5 +217,15 @@ impl Held {
             return self.store.chain(chain, object);
         }
         lend!(self.store, kophdaen_held_chain, chain.as_mut_ptr(), chain.len(), object)
+    }
+
+    /// Puts what each of so many commits owes of the steps of a pass into `share`, of two words: the
+    /// whole share, then the remainder. Refused with 17 where `commits` is not 1 to 4096. A buffer of
+    /// another length goes to the lent call, which refuses it with 1.
+    pub fn pass_share(&mut self, share: &mut [u32], commits: u32) -> Answer {
+        if share.len() != SHARE_WORDS {
+            return self.store.pass_share(share, commits);
+        }
+        lend!(self.store, kophdaen_held_pass_share, share.as_mut_ptr(), share.len(), commits)
     }
 }

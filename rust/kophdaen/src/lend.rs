@@ -41,6 +41,7 @@ declare! {
     kophdaen_reopen();
     kophdaen_reopen_step();
     kophdaen_chain(chain: *mut u32, chain_words: usize, object: u32);
+    kophdaen_pass_share(share: *mut u32, share_words: usize, commits: u32);
 
     kophdaen_held_begin(t: u32);
     kophdaen_held_commit(t: u32);
@@ -60,6 +61,7 @@ declare! {
     kophdaen_held_pass_step();
     kophdaen_held_reopen_step();
     kophdaen_held_chain(chain: *mut u32, chain_words: usize, object: u32);
+    kophdaen_held_pass_share(share: *mut u32, share_words: usize, commits: u32);
 }
 
 /// Lends the six areas to a C function.

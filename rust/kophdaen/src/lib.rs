@@ -41,6 +41,8 @@ pub const PAGE_WORDS: usize = 129;
 pub const OBJECT_WORDS: usize = 8;
 /// Words of a chain's buffer: the objects of the largest store, at every size.
 pub const CHAIN_WORDS: usize = 4096;
+/// Words of a share's buffer: the whole share, then its remainder.
+pub const SHARE_WORDS: usize = 2;
 pub const RECORD_WORDS: usize = 6;
 pub const COUNTS_WORDS: usize = 2;
 

@@ -115,6 +115,14 @@ impl Store {
         lend!(self, kophdaen_chain, chain.as_mut_ptr(), chain.len(), object)
     }
 
+    /// Puts what each of so many commits owes of the steps of a pass into `share`: the whole share,
+    /// (17 x P + 1) / `commits`, then the remainder; the first so many commits owe one step more. So the
+    /// pass is over after the last. Refused with 17 where `commits` is not 1 to 4096; a buffer that has
+    /// not two words is refused with 1.
+    pub fn pass_share(&mut self, share: &mut [u32], commits: u32) -> Answer {
+        lend!(self, kophdaen_pass_share, share.as_mut_ptr(), share.len(), commits)
+    }
+
     /// A power cut: "keeps the stored pages, the stable count and that many records; all else
     /// comes back as zeros". Where the stable count is above L the whole log is kept.
     pub fn cut(&mut self) {

@@ -1,5 +1,5 @@
-//! Document 01's page server and collector, and document 02's L1, L2 and L3, over the same lent
-//! words as the proved library.
+//! Document 01's page server and collector, and document 02's L1 to L4, over the same lent words as
+//! the proved library.
 //!
 //! Written from documents 01 and 02, docs/LAYOUT.md and docs/DECISIONS.md, not from the library's source.
 //! Each call tests its refusals in the order of the refusal table, then acts; `?` leaves the call
@@ -11,6 +11,7 @@ mod holder;
 pub mod layout;
 mod marks;
 pub mod recover;
+mod share;
 pub mod sound;
 mod whole;
 
@@ -468,7 +469,8 @@ impl Model {
             Fault::PrunedGreyInSweepToo => self.areas.work[PHASE] != NO_PASS,
             _ => self.areas.work[PHASE] == MARKING,
         };
-        if greys && self.areas.by_object(Table::Colours, target) == WHITE {
+        let again = self.has(Fault::PrunedScannedAgain);
+        if greys && (again || self.areas.by_object(Table::Colours, target) == WHITE) {
             *self.areas.object_table(Table::Colours, target) = GREY;
         }
     }
@@ -567,7 +569,9 @@ impl Model {
         }
         self.areas.work[PHASE] = MARKING;
         self.areas.work[PASS_PAGE] = 0;
-        self.areas.work[PASS_STEP] = 0;
+        if !self.has(Fault::StartKeepsStepNumber) {
+            self.areas.work[PASS_STEP] = 0;
+        }
         Ok(0)
     }
 
@@ -595,7 +599,14 @@ impl Model {
         } else if let Some(object) = taken {
             self.scan(object);
         }
-        self.count_step();
+        let counts = match self.fault {
+            Fault::TurnIsNoStep => taken.is_some(),
+            Fault::FreeSlotIsNoStep => taken.is_none_or(|object| occupied(&self.areas.copies, object)),
+            _ => true,
+        };
+        if counts {
+            self.count_step();
+        }
         match taken {
             Some(object) => Ok(object),
             None => {
@@ -642,6 +653,9 @@ impl Model {
         }
         let map = if locks == 0 { self.garbage(page) } else { 0 };
         if map != 0 || self.has(Fault::SweepAlwaysNeedsRoom) {
+            if self.has(Fault::RefusedSweepIsStep) && self.room(1).is_err() {
+                self.count_step();
+            }
             self.room(1)?;
         }
         if map != 0 {
@@ -655,7 +669,12 @@ impl Model {
                 free_map(&mut self.areas.copies, page, map);
             }
         }
-        if !(self.has(Fault::SkippedPageIsNoStep) && locks != 0) {
+        let counts = match self.fault {
+            Fault::SkippedPageIsNoStep => locks == 0,
+            Fault::NothingFreedIsNoStep => map != 0 || locks != 0,
+            _ => true,
+        };
+        if counts {
             self.count_step();
         }
         self.leave_page(page);
@@ -672,7 +691,9 @@ impl Model {
         if page >= last {
             self.areas.work[PHASE] = NO_PASS;
             self.areas.work[PASS_PAGE] = 0;
-            self.areas.work[PASS_STEP] = 0;
+            if !self.has(Fault::EndKeepsStepNumber) {
+                self.areas.work[PASS_STEP] = 0;
+            }
             if self.has(Fault::PassEndWhitens) {
                 self.areas.table(Table::Colours).fill(WHITE);
             }
@@ -739,9 +760,13 @@ impl Model {
             a.counts[RECEIVED_COUNT] = a.counts[STABLE_COUNT];
         }
         let known = a.table(Table::Known).to_vec();
+        let pass = [PHASE, PASS_PAGE, PASS_STEP].map(|word| a.work[word]);
         a.work.fill(0);
         if self.fault == Fault::ReopenKeepsKnown {
             a.table(Table::Known).copy_from_slice(&known);
+        }
+        if self.fault == Fault::ReopenKeepsPass {
+            a.work[PHASE..=PASS_STEP].copy_from_slice(&pass);
         }
         a.work[REOPENING] = 1;
         Ok(0)

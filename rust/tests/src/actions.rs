@@ -48,7 +48,7 @@ impl Image {
 #[derive(Clone, Debug, PartialEq)]
 pub enum Slice {
     Nothing,
-    /// Read's or chain's buffer, of so many words.
+    /// Read's, chain's or share's buffer, of so many words.
     Buffer(usize),
     Image(Image),
 }
@@ -60,7 +60,7 @@ pub struct Request {
     pub slice: Slice,
 }
 
-/// With the buffer that a read or a chain takes, and the image that a flush takes.
+/// With the buffer that a read, a chain or a share takes, and the image that a flush takes.
 impl From<Call> for Request {
     fn from(call: Call) -> Request {
         let slice = match (call, call.buffer_words()) {
@@ -79,6 +79,10 @@ impl Request {
 
     pub fn chain(object: u32, words: usize) -> Request {
         Request { call: Call::Chain(object), slice: Slice::Buffer(words) }
+    }
+
+    pub fn share(commits: u32, words: usize) -> Request {
+        Request { call: Call::PassShare(commits), slice: Slice::Buffer(words) }
     }
 
     pub fn flush(t: u32, page: u32, image: Image) -> Request {

@@ -1,5 +1,6 @@
 //! Document 01's fourteen examples of the refusal table, its bench input and its cases on L, each
-//! with the answers that the document gives; and the examples of chains, of holders and of marks.
+//! with the answers that the document gives; and the examples of chains, of holders, of marks, of
+//! passes and of their shares.
 
 use calls::Call::*;
 use model::layout::*;
@@ -8,7 +9,9 @@ use crate::actions::*;
 use crate::chains;
 use crate::holders;
 use crate::marks;
+use crate::passes;
 use crate::run::*;
+use crate::shares;
 use crate::sides::Kind;
 
 /// An action with its answer, number and value (0,0 for a poke or a cut), and, where the example tells it, every word
@@ -146,8 +149,10 @@ fn made(pair: &mut Pair, Step { action, number, value, buffer, words }: &Step) -
 /// Runs every example on both sides: how many calls, or what went wrong.
 pub fn run(left: Kind, right: Kind) -> Result<u64, String> {
     let mut calls = 0;
-    let examples = [refusals(), room(), vec![bench()], chains::examples(), holders::examples(), marks::examples()];
-    for Example { name, pages, records, steps } in examples.into_iter().flatten() {
+    let own = [refusals(), room(), vec![bench()]];
+    let requests = [chains::examples(), holders::examples(), marks::examples()];
+    let passes = [passes::examples(), shares::examples()];
+    for Example { name, pages, records, steps } in own.into_iter().chain(requests).chain(passes).flatten() {
         let mut pair = Pair::new(left, right, pages, records);
         for step in [ok(Format, 0)].iter().chain(&steps) {
             made(&mut pair, step).map_err(|what| format!("{name}: {}: {what}", step.action))?;

@@ -2,10 +2,11 @@
 //! the log is drained when it is full, passes and reopenings run to their end.
 
 use calls::Call;
-use kophdaen::{CHAIN_WORDS, OBJECT_WORDS};
+use kophdaen::{CHAIN_WORDS, OBJECT_WORDS, SHARE_WORDS};
 use model::layout::*;
 
 use crate::actions::*;
+use crate::crowd;
 use crate::random::Random;
 use crate::rubbish::odd_word;
 
@@ -32,6 +33,8 @@ pub enum Habit {
     Building,
     /// Set marks, change, go back and change again, and seldom end.
     Trying,
+    /// Take every slot and link it, so that passes take as many steps as they may.
+    Crowding,
 }
 
 pub struct Generator {
@@ -223,7 +226,7 @@ impl Generator {
             _ => number(r, SLOTS * pages + 1),
         };
         let mark = number(r, MARKS as usize);
-        let call = match r.below(40) {
+        let call = match r.below(42) {
             0 if r.percent(10) => Call::Format,
             0..=2 => Call::Begin(t),
             3 | 4 => Call::Commit(t),
@@ -243,7 +246,8 @@ impl Generator {
             31..=33 => Call::ReopenStep,
             34 | 35 => Call::Mark(t, mark),
             36 | 37 => Call::Back(t, mark),
-            _ => return chain(object, r),
+            38 | 39 => return chain(object, r),
+            _ => return share(pages, r),
         };
         call.into()
     }
@@ -257,20 +261,7 @@ impl Generator {
         if room < 2 && self.random.percent(drained) {
             return self.drain(a, &active);
         }
-        let pass = a.work[PHASE] != NO_PASS;
-        let building = self.style.habit == Habit::Building;
-        let weights = [
-            if active.len() < self.style.crowd { 12 } else { 1 }, // begin
-            if active.is_empty() { 0 } else { 100 },
-            8,                                    // force
-            6,                                    // store
-            2,                                    // empty
-            if pass || building { 1 } else { 8 }, // start
-            if pass { 40 } else { 1 },            // step
-            1,                                    // reopen, one time in six
-            1,                                    // drain
-            if building { 30 } else { 5 },        // chain
-        ];
+        let weights = self.weights(active.len(), a.work[PHASE] != NO_PASS);
         match self.random.weighted(&weights) {
             0 => Call::Begin(self.random.below(self.style.crowd + 1) as u32 % 16).into(),
             1 => {
@@ -285,8 +276,27 @@ impl Generator {
             7 => Call::Force.into(),
             8 => self.drain(a, &active),
             9 => self.chain(a),
+            10 => share(a.pages(), &mut self.random),
             _ => self.step().into(),
         }
+    }
+
+    /// How often each kind of call is made, with so many transactions and a pass or none.
+    fn weights(&self, active: usize, pass: bool) -> [usize; 11] {
+        let building = self.style.habit == Habit::Building;
+        [
+            if active < self.style.crowd { 12 } else { 1 }, // begin
+            if active == 0 { 0 } else { 100 },              // of a transaction
+            8,                                              // force
+            6,                                              // store
+            2,                                              // empty
+            if pass || building { 1 } else { 8 },           // start
+            if pass { 40 } else { 1 },                      // step
+            1,                                              // reopen, one time in six
+            1,                                              // drain
+            if building { 30 } else { 5 },                  // chain
+            2,                                              // share
+        ]
     }
 
     /// One force, or the first of as many as make every record stable.
@@ -313,11 +323,17 @@ impl Generator {
     fn of_transaction(&mut self, a: &Areas, t: u32) -> Request {
         let written: Vec<u32> =
             (0..a.pages() as u32).filter(|&p| a.get(Table::Writers, p as usize) & bit(t) != 0).collect();
+        if let (Habit::Crowding, true) = (self.style.habit, self.random.percent(80)) {
+            if let Some(call) = crowd::next(a, t, &written) {
+                return call.into();
+            }
+        }
         let weights = match self.style.habit {
             _ if written.is_empty() => [10, 40, 8, 1, 2, 1, 3, 2, 3, 2],
             Habit::Mixed => [4, 6, 12, 18, 34, 10, 5, 2, 3, 3],
             Habit::Building => [4, 6, 30, 14, 50, 10, 5, 0, 1, 1],
             Habit::Trying => [4, 6, 10, 24, 40, 8, 2, 1, 12, 16],
+            Habit::Crowding => [4, 10, 30, 0, 0, 20, 6, 0, 1, 0],
         };
         match self.random.weighted(&weights) {
             0 => Call::LockRead(t, self.page()).into(),
@@ -502,6 +518,21 @@ fn chain(object: u32, r: &mut Random) -> Request {
     Request::chain(object, words)
 }
 
+/// Of commits at and about their bounds and the steps of a pass, or as many as there may be; with a buffer of another
+/// length now and then.
+fn share(pages: usize, r: &mut Random) -> Request {
+    let steps = 17 * pages as u32 + 1;
+    let bounds = [0, 1, 4095, 4096, 4097, u32::MAX, steps - 1, steps, steps + 1];
+    let commits = match r.below(10) {
+        0..=3 => r.pick(&bounds).unwrap(),
+        4 => odd_word(steps, pages, r),
+        5 | 6 => r.between(1, steps as usize) as u32,
+        _ => r.between(1, 4096) as u32,
+    };
+    let words = if r.below(12) == 0 { r.pick(&[0, 1, 3, OBJECT_WORDS]).unwrap() } else { SHARE_WORDS };
+    Request::share(commits, words)
+}
+
 /// Flush images of every kind.
 fn image(r: &mut Random) -> Image {
     match r.below(10) {
@@ -546,8 +577,12 @@ pub enum Scope {
 /// Size, style and length of a list.
 pub fn plan(random: &mut Random, scope: Scope) -> (usize, usize, Style, usize) {
     let large = scope == Scope::Large;
-    let (pages, records) = size(random, large);
     let style = style(random, scope);
+    let (pages, records) = match style.habit {
+        // a store that a transaction or two can fill
+        Habit::Crowding => (random.between(1, 2), random.between(80, 160)),
+        _ => size(random, large),
+    };
     let calls = match style.filling {
         None if large => random.between(200, 3000),
         None => random.between(100, 1200),
@@ -587,8 +622,8 @@ fn style(random: &mut Random, scope: Scope) -> Style {
     let crowd = random.pick(&[1, 1, 2, 2, 3, 3, 5, 16]).unwrap();
     let plain = Style { cuts: 3, damage: 0, lengths: 4, wild: 40, crowd, habit: Habit::Mixed, filling: None };
     let styles = match scope {
-        Scope::Legal => [45, 20, 25, 35, 0, 0, 0, 0, 0, 0, 0, 0],
-        _ => [45, 20, 15, 30, 15, 20, 2, 10, 6, 12, 5, 10],
+        Scope::Legal => [45, 20, 25, 35, 10, 0, 0, 0, 0, 0, 0, 0, 0],
+        _ => [45, 20, 15, 30, 8, 15, 20, 2, 10, 6, 12, 5, 10],
     };
     let trying = Style { cuts: 2, wild: 15, crowd: crowd.min(3), habit: Habit::Trying, ..plain };
     match random.weighted(&styles) {
@@ -596,13 +631,14 @@ fn style(random: &mut Random, scope: Scope) -> Style {
         1 => Style { cuts: 12, wild: 20, ..plain },
         2 => Style { cuts: 1, wild: 10, crowd: crowd.min(2), habit: Habit::Building, ..plain },
         3 => trying,
-        4 => Style { damage: 150, ..plain },
-        5 => Style { wild: 250, lengths: 15, cuts: 1, damage: 80, filling: Some(Filling::Sound), ..plain },
-        6 => Style { wild: 600, filling: Some(Filling::Noise), ..plain },
-        7 => Style { filling: Some(Filling::Reopening), ..plain },
-        8 => Style { filling: Some(Filling::Damaged), ..plain },
-        9 => Style { damage: 30, lengths: 10, filling: Some(Filling::Linked), ..plain },
-        10 => Style { damage: 30, filling: Some(Filling::Contended), ..plain },
+        4 => Style { cuts: 1, wild: 10, crowd: crowd.min(2), habit: Habit::Crowding, ..plain },
+        5 => Style { damage: 150, ..plain },
+        6 => Style { wild: 250, lengths: 15, cuts: 1, damage: 80, filling: Some(Filling::Sound), ..plain },
+        7 => Style { wild: 600, filling: Some(Filling::Noise), ..plain },
+        8 => Style { filling: Some(Filling::Reopening), ..plain },
+        9 => Style { filling: Some(Filling::Damaged), ..plain },
+        10 => Style { damage: 30, lengths: 10, filling: Some(Filling::Linked), ..plain },
+        11 => Style { damage: 30, filling: Some(Filling::Contended), ..plain },
         _ => Style { damage: 30, filling: Some(Filling::Marked), ..trying },
     }
 }

@@ -13,6 +13,7 @@
 
 mod actions;
 mod chains;
+mod crowd;
 mod examples;
 mod generate;
 mod graphs;
@@ -20,11 +21,14 @@ mod holders;
 mod marks;
 mod open;
 mod oracle;
+mod passes;
 mod power;
 mod random;
 mod rubbish;
 mod run;
+mod shares;
 mod sides;
+mod steps;
 mod whole;
 
 use std::process::exit;
@@ -139,6 +143,7 @@ pub fn random_lists(
             }
         }
         tally.held += pair.held_calls;
+        tally.full_passes += pair.steps.full_passes;
     }
     None
 }

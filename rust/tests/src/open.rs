@@ -2,7 +2,7 @@
 //! calls and cuts. None of them may lead to a store that is not well formed, or to a disk that does not open.
 
 use calls::{Call, Server};
-use kophdaen::{Held, NotHeld, CHAIN_WORDS, OBJECT_WORDS};
+use kophdaen::{Held, NotHeld, CHAIN_WORDS, OBJECT_WORDS, SHARE_WORDS};
 use model::layout::*;
 use model::{whole, Fault, Model, Refusal};
 
@@ -12,6 +12,7 @@ use crate::random::Random;
 use crate::rubbish::fill;
 use crate::run::Pair;
 use crate::sides::{Kind, MODEL};
+use crate::steps::Steps;
 use crate::whole::joined;
 
 /// What a disk holds, and the room for records.
@@ -76,6 +77,7 @@ fn tried(mut held: Held) -> (Vec<u32>, bool, Areas) {
     let mut answers = vec![
         held.read(&mut [0; OBJECT_WORDS - 1], 0, ROOT),
         held.chain(&mut [0; CHAIN_WORDS - 1], ROOT),
+        held.pass_share(&mut [0; SHARE_WORDS - 1], 1),
         held.flush(&[0; PAGE_WORDS + 1], 0, 0),
     ];
     held.cut();
@@ -88,7 +90,7 @@ fn tried(mut held: Held) -> (Vec<u32>, bool, Areas) {
 fn open(disk: &Disk) -> Result<Result<Areas, NotHeld>, String> {
     let told = Held::open(&disk.stored, &disk.stable, disk.records).map(tried);
     let expected = opened(disk);
-    if told != expected.clone().map(|areas| (vec![1, 1, 1, 2, 0], true, areas)) {
+    if told != expected.clone().map(|areas| (vec![1, 1, 1, 1, 2, 0], true, areas)) {
         return Err(format!("opened differently ({:?} and {:?})", told.err(), expected.err()));
     }
     Ok(expected)
@@ -106,11 +108,13 @@ fn formats_alike(pages: usize, records: usize) -> bool {
 fn go_on(areas: &Areas, random: &mut Random) -> Result<(Areas, u64), String> {
     let audit = Action::from(Call::LockRead(16, 0));
     let crowd = random.between(1, 4);
-    let habit = [Habit::Mixed, Habit::Building, Habit::Trying][random.weighted(&[50, 20, 30])];
+    let habits = [Habit::Mixed, Habit::Building, Habit::Trying, Habit::Crowding];
+    let habit = habits[random.weighted(&[45, 20, 25, 10])];
     let style = Style { cuts: 6, damage: 0, lengths: 0, wild: 40, crowd, habit, filling: None };
     let mut generator = Generator::new(Random::new(random.next()), style, areas.pages()).going_on();
     let mut pair = Pair::new(Kind::Library, MODEL, areas.pages(), areas.records());
     pair.load(areas);
+    pair.steps = Steps::reopened();
     let mut calls = 0;
     for _ in 0..random.between(20, 400) {
         let action = generator.next(&pair.areas());

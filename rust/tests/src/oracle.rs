@@ -1,7 +1,7 @@
 //! The model against the Python oracle, over the oracle's line protocol: the answer of every call
 //! and, by `dumpall`, every word after it. The protocol cannot say a wrong length of an area or of
-//! a read buffer; such calls go with the right one. It has no chain, mark or back; such calls are left
-//! out.
+//! a read buffer; such calls go with the right one. It has no chain, mark, back or share; such calls
+//! are left out.
 //!
 //! One known difference is kept out of the lists: the oracle has no bound on the pass's step number,
 //! which docs/LAYOUT.md ends at 17 x P (DECISIONS 35). Others are those of document 02: the oracle is
@@ -264,7 +264,7 @@ fn filled(filling: Filling, seed: u64, pages: usize, records: usize) -> Areas {
 /// (DECISIONS 35 has one), so that one is not damaged above it.
 fn sayable(action: Action, pages: usize) -> Option<Action> {
     match action.call() {
-        Some(Call::Chain(_) | Call::Mark(..) | Call::Back(..)) => return None,
+        Some(Call::Chain(_) | Call::Mark(..) | Call::Back(..) | Call::PassShare(_)) => return None,
         Some(call @ Call::Read(..)) => return Some(call.into()),
         _ => {}
     }

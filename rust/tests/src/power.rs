@@ -59,7 +59,35 @@ fn calls_table(seed: u64, calls: u64) -> (String, usize) {
     (table, missed)
 }
 
-/// .. and of `whole`.
+/// Faults that are put into both sides, so that the tally of steps alone can notice them.
+const TALLIED: [Fault; 9] = [
+    Fault::MarksAllInFirstStep,
+    Fault::SkippedPageIsNoStep,
+    Fault::PrunedScannedAgain,
+    Fault::TurnIsNoStep,
+    Fault::FreeSlotIsNoStep,
+    Fault::NothingFreedIsNoStep,
+    Fault::RefusedSweepIsStep,
+    Fault::EndKeepsStepNumber,
+    Fault::ReopenKeepsPass,
+];
+
+/// .. the lines of their table, and how many are not noticed.
+fn tally_table(seed: u64, calls: u64) -> (String, usize) {
+    let mut table = String::new();
+    let mut missed = 0;
+    for fault in TALLIED {
+        let both = Kind::Model(fault);
+        let found = random_lists(both, both, seed, calls, Scope::Legal, &mut Tally::new()).map(|(_, calls)| calls);
+        missed += usize::from(found.is_none());
+        let all = shown(found);
+        println!("{all:>8} by the tally  {fault:?}");
+        writeln!(table, "| `{fault:?}` | {all} |").unwrap();
+    }
+    (table, missed)
+}
+
+/// The faults of `whole`, likewise.
 fn whole_table(seed: u64, areas: u64) -> (String, usize) {
     let mut table = String::new();
     let mut missed = 0;
@@ -76,8 +104,9 @@ fn whole_table(seed: u64, areas: u64) -> (String, usize) {
 pub fn run(seed: u64, calls: u64, write: Option<&str>) -> bool {
     std::panic::set_hook(Box::new(|_| {})); // a faulty model may panic: that is noticed too
     let (table, missed) = calls_table(seed, calls);
+    let (tally_table, missed_of_tally) = tally_table(seed, calls / 10);
     let (whole_table, missed_of_whole) = whole_table(seed, calls / 10);
-    let missed = missed + missed_of_whole;
+    let missed = missed + missed_of_tally + missed_of_whole;
     let faults = FAULTS.len() + WHOLE_FAULTS.len();
     println!("power: {faults} faults against {}, {missed} not noticed", UNCHANGED.name());
     if let Some(path) = write {
@@ -89,6 +118,8 @@ pub fn run(seed: u64, calls: u64, write: Option<&str>) -> bool {
             calls = calls,
             tenth = calls / 10,
             table = table.trim_end(),
+            tallied = TALLIED.len(),
+            tally_table = tally_table.trim_end(),
             whole_table = whole_table.trim_end()
         );
         if let Err(error) = std::fs::write(path, text) {

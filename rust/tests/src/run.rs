@@ -1,5 +1,6 @@
 //! Runs actions on two sides and compares every answer and every lent word after each; shrinks a
-//! list on which they differ. Beside the library's calls their held forms are made.
+//! list on which they differ. Beside the library's calls their held forms are made; and the steps of its
+//! passes are tallied.
 
 use std::panic::{catch_unwind, AssertUnwindSafe};
 
@@ -11,6 +12,7 @@ use model::{Fault, Model};
 use crate::actions::*;
 use crate::rubbish::fill;
 use crate::sides::Kind;
+use crate::steps::Steps;
 
 pub struct Pair {
     pub left: Box<dyn Side>,
@@ -21,12 +23,14 @@ pub struct Pair {
     pub held_calls: u64,
     /// What the last call left in the buffer that it was lent.
     pub buffer: Vec<u32>,
+    /// Of the left side's passes.
+    pub steps: Steps,
     pages: usize,
     records: usize,
 }
 
 /// Answer numbers: 0 and the refusals.
-const NUMBERS: usize = 17;
+const NUMBERS: usize = 18;
 
 /// The answers that a run saw, by call and answer number (the last for others), and what it reached.
 #[derive(Clone)]
@@ -37,12 +41,13 @@ pub struct Tally {
     pub cuts: u64,
     pub freed: u64,
     pub longest_chain: u64,
+    pub full_passes: u64,
 }
 
 impl Tally {
     pub fn new() -> Tally {
         let answers = vec![[0; NUMBERS + 1]; NAMES.len()];
-        Tally { answers, calls: 0, held: 0, cuts: 0, freed: 0, longest_chain: 0 }
+        Tally { answers, calls: 0, held: 0, cuts: 0, freed: 0, longest_chain: 0, full_passes: 0 }
     }
 
     pub fn note(&mut self, action: &Action, answer: u64, sweeping: bool) {
@@ -72,8 +77,8 @@ impl Tally {
             println!();
         }
         println!(
-            "{} calls, {} of them held too, {} cuts, {} slots freed, longest chain {}",
-            self.calls, self.held, self.cuts, self.freed, self.longest_chain
+            "{} calls, {} of them held too, {} cuts, {} slots freed, longest chain {}, {} passes of 17 x P + 1 steps",
+            self.calls, self.held, self.cuts, self.freed, self.longest_chain, self.full_passes
         );
     }
 }
@@ -104,6 +109,7 @@ impl Pair {
             held,
             held_calls: 0,
             buffer: Vec::new(),
+            steps: Steps::default(),
             pages,
             records,
         }
@@ -121,8 +127,13 @@ impl Pair {
         areas
     }
 
-    /// Does the action on both sides: the left side's answer, or what differs.
+    /// Does the action on both sides: the left side's answer, or what differs, or what does not hold of its steps.
     pub fn step(&mut self, action: &Action) -> Result<u64, String> {
+        let answer = self.act(action)?;
+        self.steps.after(action, answer, &mut *self.left).map(|_| answer)
+    }
+
+    fn act(&mut self, action: &Action) -> Result<u64, String> {
         match action {
             Action::Call(request) => self.call(request),
             Action::Resized(area, len, request) => self.resized(*area, *len, request),
@@ -166,6 +177,7 @@ impl Pair {
     }
 
     pub fn load(&mut self, areas: &Areas) {
+        self.steps = Steps::default();
         for side in self.sides() {
             AREAS.iter().for_each(|&area| side.area_mut(area).clone_from(areas.of(area)));
         }

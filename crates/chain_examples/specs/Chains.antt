@@ -14,7 +14,7 @@ use Rattle.calls.specs.Formatting.{formatted}
 use Rattle.calls.specs.Calls.{Call, begin, lockWrite, create, setWord, flush, reopen}
 use Rattle.calls.specs.Chains.{callChain, chainAfter}
 use Rattle.computing.specs.Calls.{calls}
-use Rattle.worked_examples.specs.Table.{sameWords, sameAreas, after}
+use Rattle.computing.specs.Stores.{sameWords, sameAreas, after}
 
 -- word f of object o names x
 pub data Reference : Type 0 where

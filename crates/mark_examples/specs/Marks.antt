@@ -20,7 +20,7 @@ use Rattle.areas.specs.Entry.{pages, records}
 use Rattle.calls.specs.Formatting.{formatted, cut}
 use Rattle.calls.specs.Calls.{Call, begin, commit, abort, lockWrite, read, create, setWord, flush, force, store, empty, reopen, mark, back, perform}
 use Rattle.computing.specs.Calls.{calls}
-use Rattle.worked_examples.specs.Table.{sameWords, sameAreas, refusedBy, after}
+use Rattle.computing.specs.Stores.{sameWords, sameAreas, refusedBy, after}
 
 -- the words of these records
 unfoldable pub wordsOf : List Record → List ℕ

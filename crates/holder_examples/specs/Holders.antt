@@ -12,7 +12,7 @@ use Rattle.areas.specs.Layout.{activeAt, readersAt, writersAt}
 use Rattle.calls.specs.Formatting.{formatted}
 use Rattle.calls.specs.Calls.{Call, lockRead, lockWrite, perform}
 use Rattle.computing.specs.Calls.{calls}
-use Rattle.worked_examples.specs.Table.{sameWords, sameAreas}
+use Rattle.computing.specs.Stores.{sameWords, sameAreas}
 
 -- a mask of these transactions
 abbrev pub mask : List ℕ → ℕ

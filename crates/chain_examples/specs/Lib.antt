@@ -1,0 +1,2 @@
+-- Examples of document 02's L1: chains.
+pub mod Chains

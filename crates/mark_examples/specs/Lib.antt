@@ -1,0 +1,2 @@
+-- Examples of document 02's L3: marks, and going back.
+pub mod Marks
