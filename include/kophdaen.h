@@ -1,8 +1,9 @@
 /* The depot record server and its mark-sweep collector: the proved library's C functions.
  *
- * Every call is lent the six areas of docs/LAYOUT.md, each as a pointer and its length in words:
- * stored pages, page copies, received pages (129 * P words each), the log (6 * L), the two log
- * counts (2) and the working tables (134 + 67 * P + L), with P from 1 to 256 and L from 1 to 4096.
+ * Every call on the store is lent the six areas of docs/LAYOUT.md, each as a pointer and its length
+ * in words: stored pages, page copies, received pages (129 * P words each), the log (6 * L), the two
+ * log counts (2) and the working tables (134 + 67 * P + L), with P from 1 to 256 and L from 1 to
+ * 4096. kophdaen_whole and the two calls that arrange a page by columns are lent pages alone.
  * An area that a call only reads is const. The library keeps no pointer and allocates nothing. A
  * call takes the areas, then the buffer or the image that it is lent, then its numbers;
  * kophdaen_areas_NAME, at the end, takes the areas as one struct.
@@ -188,6 +189,14 @@ uint64_t kophdaen_pass_share(
  * above 16 * P is not occupied. Answers 1 where the length is not 129 * P. Takes 33 kB of stack.
  * Value: 1 if so, else 0. */
 uint64_t kophdaen_whole(const uint32_t *pages, size_t pages_words);
+
+/* A page by columns, for a backup: out gets page's map, then eight rows of sixteen words, row w being
+ * word w of slots 0 to 15 in order. kophdaen_from_columns is the inverse: out gets the page of which
+ * page holds the columns. Either order gives the page back, whatever its words: none is tested. page is
+ * only read, every word of out is written; the two must not overlap. No store is lent. Both answer 1
+ * where either length is not 129. Value 0. */
+uint64_t kophdaen_to_columns(const uint32_t *page, size_t page_words, uint32_t *out, size_t out_words);
+uint64_t kophdaen_from_columns(const uint32_t *page, size_t page_words, uint32_t *out, size_t out_words);
 
 /* Held calls: kophdaen_held_NAME is kophdaen_NAME, the same answer and the same words, but does not
  * look at every word of the areas for refusal 1. The caller guarantees instead, and nothing checks:

@@ -1,5 +1,5 @@
-/* include/kophdaen.h: with the length 0 a pointer may be NULL, and the call answers 1. Tried of areas, of an image, of the buffers
- * and of the pages that may be whole. Prints nothing where it is so. */
+/* include/kophdaen.h: with the length 0 a pointer may be NULL, and the call answers 1. Tried of areas, of an image, of the buffers,
+ * of the pages that may be whole and of a page by columns. Prints nothing where it is so. */
 #include <stdio.h>
 
 #include "kophdaen.h"
@@ -22,6 +22,7 @@ static void answers(const char *what, uint64_t code, uint32_t number)
 
 int main(void)
 {
+    uint32_t page[KOPHDAEN_PAGE_WORDS] = {0};
     const kophdaen_areas none = {NULL, 0, NULL, 0, NULL, 0, NULL, 0, NULL, 0, NULL, 0};
     const kophdaen_areas depot = {LENT(stored), LENT(copies), LENT(received), LENT(records), LENT(counts), LENT(work)};
     kophdaen_areas unlogged = depot;
@@ -44,5 +45,9 @@ int main(void)
     answers("chain into no buffer", kophdaen_areas_chain(&depot, NULL, 0, 1), 1);
     answers("share into no buffer", kophdaen_areas_pass_share(&depot, NULL, 0, 1), 1);
     answers("whole of no pages", kophdaen_whole(NULL, 0), 1);
+    answers("no page by columns", kophdaen_to_columns(NULL, 0, page, KOPHDAEN_PAGE_WORDS), 1);
+    answers("columns into no page", kophdaen_to_columns(page, KOPHDAEN_PAGE_WORDS, NULL, 0), 1);
+    answers("a page from no columns", kophdaen_from_columns(NULL, 0, page, KOPHDAEN_PAGE_WORDS), 1);
+    answers("columns back into no page", kophdaen_from_columns(page, KOPHDAEN_PAGE_WORDS, NULL, 0), 1);
     return wrong;
 }

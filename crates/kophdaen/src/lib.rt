@@ -14,6 +14,7 @@ ghost use Rattle.calls.specs.PassShares.{callPassShare, passShareAfter};
 ghost use Rattle.codes.specs.Codes.{coded};
 use codes::code;
 
+mod arranging;
 mod held;
 mod whole;
 

@@ -11,7 +11,7 @@ use Rattle.pages.specs.Geometry.{slotCount, pageAt}
 use Rattle.pages.specs.Objects.{mapAt, copiedPage}
 use Rattle.pages.specs.Table.{rowsOf, withRows}
 use Rattle.page_laws.specs.Places.{Holds, area-ext, map-put-map, word-put-map, length-copy, map-copy, word-copy, length-rows, map-rows, word-rows}
-use Rattle.page_rows.specs.RoundTrip.{rows-full, rows-at, row-at}
+use Rattle.page_laws.specs.Tables.{rows-full, rows-at, row-at}
 
 -- the map of a page and its table of rows, written into another area, are the page
 pub page-by-rows : (from to : List ℕ) (p : ℕ) → Holds from p → Holds to p

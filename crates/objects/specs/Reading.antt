@@ -17,7 +17,7 @@ use Rattle.pages.specs.Objects.{wordOf}
 use Rattle.pages.specs.Soundness.{areaSound}
 use Rattle.page_laws.specs.Runs.{fill-turn}
 use Rattle.page_laws.specs.SoundFacts.{ref-in-range}
-use Rattle.page_rows.specs.RoundTrip.{row-at}
+use Rattle.page_laws.specs.Tables.{row-at}
 use Rattle.areas.specs.Layout.{knownAt}
 use Rattle.areas.specs.Tables.{gain}
 use Rattle.calls.specs.Objects.{learned, objectWords}

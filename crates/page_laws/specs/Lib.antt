@@ -2,5 +2,6 @@
 pub mod BitLaws
 pub mod Runs
 pub mod Places
+pub mod Tables
 pub mod ViewLaws
 pub mod SoundFacts

@@ -1,50 +1,22 @@
 -- A page by value and back: its rows written where they were read change nothing, a table written is the one read,
 -- and the slots of a map are freed by way of the table. Assumes nothing.
-use Prim.Native.Nat.{ℕ, zero, suc, _<_}
+use Prim.Native.Nat.{ℕ, _<_}
 use mathlib.Core.Path.{_≡_, refl, sym, _∙_}
-use mathlib.Core.List.{List, [], _∷_}
-use lib.ListN.{length, getD, set, length-set, List·getD-append, getD-replicate}
-use lib.Seq.{getD-at, ext-getD}
+use mathlib.Core.List.{List, []}
+use lib.ListN.{length, getD, set, length-set, getD-replicate}
+use lib.Seq.{ext-getD}
 use lib.Dec.{eqb}
-use native.Mathlib.Decide.{ℕ-discrete}
 use native.Mathlib.Omega.{arith}
 use borrow.Author.Tests.{eqb-true, eq-eqb, lt-ltb}
 use Rattle.words.specs.Tests.{if, by-bool}
 use Rattle.words.specs.Bits.{bit}
 use Rattle.pages.specs.Geometry.{slotCount, slotWords, pageAt}
 use Rattle.pages.specs.Objects.{mapAt, slotWord, released}
-use Rattle.pages.specs.Table.{tabulate, rowOf, rowsOf, withRows}
+use Rattle.pages.specs.Table.{rowOf, rowsOf, withRows}
 use Rattle.page_laws.specs.BitLaws.{clearBits}
-use Rattle.page_rows.specs.TableLaws.{length-tab, freedRow, freedRows}
+use Rattle.page_laws.specs.Tables.{length-tab, tab-at, row-at, rows-at, rows-full}
+use Rattle.page_rows.specs.TableLaws.{freedRow, freedRows}
 use Rattle.page_laws.specs.Places.{Holds, area-ext, map-put-map, word-put-map, length-released-in, map-released-in, word-released-in, length-rows, map-rows, word-rows}
-
--- reading a table
-
-pub tab-at : {A : Type 0} (f : ℕ → A) (n i : ℕ) (d : A) → i < n → getD (tabulate f n) i d ≡ f i
-unfolding tabulate
-tab-at f zero i d h = absurd (omega arith)
-tab-at f (suc n) i d h = elim (ℕ-discrete i n) [
-  | yes q ↦ rw q (getD-at (tabulate f n) (f n) [] d n (length-tab f n))
-  | no q ↦ List·getD-append (tabulate f n) (f n ∷ []) d i (let e = length-tab f n in omega arith) ∙ tab-at f n i d (omega arith)
-]
-
-pub row-at : (a : List ℕ) (p s f : ℕ) → f < slotWords → getD (rowOf a p s) f 0 ≡ slotWord a p s f
-row-at a p s zero h = refl
-row-at a p s (suc zero) h = refl
-row-at a p s (suc (suc zero)) h = refl
-row-at a p s (suc (suc (suc zero))) h = refl
-row-at a p s (suc (suc (suc (suc zero)))) h = refl
-row-at a p s (suc (suc (suc (suc (suc zero))))) h = refl
-row-at a p s (suc (suc (suc (suc (suc (suc zero)))))) h = refl
-row-at a p s (suc (suc (suc (suc (suc (suc (suc zero))))))) h = refl
-row-at a p s (suc (suc (suc (suc (suc (suc (suc (suc f)))))))) h = absurd (omega arith)
-
-pub rows-at : (a : List ℕ) (p s : ℕ) → s < slotCount → getD (rowsOf a p) s [] ≡ rowOf a p s
-unfolding rowsOf
-rows-at a p s h = tab-at (rowOf a p) slotCount s [] h
-
-pub rows-full : (a : List ℕ) (p s : ℕ) → s < slotCount → length (getD (rowsOf a p) s []) ≡ slotWords
-rows-full a p s h = rw (rows-at a p s h)
 
 -- the round trips
 

@@ -2,7 +2,7 @@
 use Prim.Native.Nat.{ℕ, zero, suc, _+_, _<_}
 use mathlib.Core.Path.{_≡_, refl, sym, ap, _∙_}
 use mathlib.Core.List.{List, [], _∷_, _++_, append-nil}
-use lib.ListN.{length, length-append, getD, set, drop, replicate, drop-of-length-le}
+use lib.ListN.{length, getD, set, drop, replicate, drop-of-length-le}
 use lib.Seq.{paste, drop-cons, set-at, append-snoc}
 use native.Mathlib.Nat.{add-zero}
 use native.Mathlib.Numerals.{add-one}
@@ -11,6 +11,7 @@ use Rattle.words.specs.Tests.{if}
 use Rattle.words.specs.Bits.{bit}
 use Rattle.pages.specs.Geometry.{slotAt, slotCount, slotWords}
 use Rattle.pages.specs.Table.{tabulate, rowOf, withRows}
+use Rattle.page_laws.specs.Tables.{length-tab}
 
 -- 'sixteen rows of eight words': one row, the words from b
 abbrev pub wordsFrom : List ℕ → ℕ → List ℕ
@@ -38,11 +39,6 @@ freedRows t m = tabulate (freedRow t m) slotCount
 
 -- a table filled one row after the other
 module _ {A : Type 0} where
-  pub length-tab : (f : ℕ → A) (n : ℕ) → length (tabulate f n) ≡ n
-  unfolding tabulate
-  length-tab f zero = refl
-  length-tab f (suc n) = rw (length-append, length-tab f n) (omega arith)
-
   pub tab-none : (f : ℕ → A) (l : List A) → l ≡ tabulate f 0 ++ drop 0 l
   unfolding tabulate
   tab-none f l = refl

@@ -1,4 +1,4 @@
-//! Where the library is slower than what it is compared with.
+//! Where the library is slower than what it is compared with, or a backup by columns larger than by rows.
 
 use crate::report::{answer, name, ratio, Results};
 use crate::runs::Workload;
@@ -15,6 +15,7 @@ pub fn losses(results: &Results) -> String {
     }
     floor_losses(results, &mut list);
     chain_losses(results, &mut list);
+    backup_losses(results, &mut list);
     if list.is_empty() {
         return "Nowhere in this run.\n".to_string();
     }
@@ -89,6 +90,24 @@ fn chain_losses(results: &Results, list: &mut Vec<String>) {
         list.extend(time.map(|held| {
             format!("`chain`, held, {}: {} times a plain search.", chain.graph, ratio(held, chain.times.floor))
         }));
+    }
+}
+
+/// Columns against rows, and arranging a page against two plain loops.
+fn backup_losses(results: &Results, list: &mut Vec<String>) {
+    for sizes in &results.backups {
+        let larger = sizes.compressed.iter().filter(|(_, [rows, columns])| columns > rows);
+        let lost: Vec<String> = larger
+            .map(|(with, [rows, columns])| {
+                format!("{} ({})", ratio(*columns as f64, *rows as f64), with.join(" "))
+            })
+            .collect();
+        if !lost.is_empty() {
+            list.push(format!("Backup, {}: by columns {} times the bytes by rows.", sizes.store, lost.join(", ")));
+        }
+    }
+    for a in results.arranging.iter().filter(|a| a.library > 1.05 * a.plain) {
+        list.push(format!("`{}`: {} times two plain loops.", a.call, ratio(a.library, a.plain)));
     }
 }
 

@@ -16,6 +16,7 @@ pub fn describe(sync_time: f64) -> Vec<(&'static str, String)> {
         ),
         ("model, floor", format!("{}, release without overflow checks", output("rustc", &["--version"]))),
         ("SQLite", crate::sqlite::version()),
+        ("compressors", ["gzip", "zstd"].map(version).join(", ")),
         ("disk", format!("an append of 28 bytes with its sync takes {sync_time:.0} µs (median)")),
         ("date", output("date", &["-u", "+%F"])),
     ]
@@ -68,4 +69,12 @@ fn output(program: &str, words: &[&str]) -> String {
 
 fn first_word(program: &str, words: &[&str]) -> String {
     output(program, words).split_whitespace().next().unwrap_or("unknown").to_string()
+}
+
+/// The program and the first number that it tells of itself.
+fn version(program: &str) -> String {
+    let told = output(program, &["--version"]);
+    let mut words = told.split_whitespace().map(|word| word.trim_matches(['v', ',']));
+    let number = words.find(|word| word.starts_with(|first: char| first.is_ascii_digit()));
+    format!("{program} {}", number.unwrap_or("none"))
 }

@@ -1,12 +1,16 @@
-//! Times the proved library, lent and held, the model, a plain sum, a plain search and SQLite in one run, and
-//! writes docs/BENCHMARKS.md.
+//! Times the proved library, lent and held, the model, a plain sum, a plain search and SQLite in one run, takes
+//! the sizes of backups, and writes docs/BENCHMARKS.md.
 //!
 //!   benchmark DIRECTORY FILE
 //!
-//! DIRECTORY is for the files that the workload writes; FILE becomes the page. tests/benchmark calls it.
+//! DIRECTORY is for the files that the workload and the backups write; FILE becomes the page. tests/benchmark
+//! calls it.
 
+mod arranging;
+mod backup;
 mod cases;
 mod chains;
+mod compress;
 mod damage;
 mod disk;
 mod growth;
@@ -23,6 +27,7 @@ mod states;
 mod tables;
 mod timing;
 mod workload;
+mod yard;
 
 use std::path::Path;
 use std::time::Duration;
@@ -56,6 +61,8 @@ fn main() {
         workloads: PLANS.map(|plan| runs::workload(plan, 3, directory, clock)).into(),
         starts: starts::starts(LARGE, clock, brief),
         chains: chains::chains(LARGE, clock, 5 * brief),
+        backups: backup::sizes(&PLANS, LARGE, directory),
+        arranging: arranging::arranging(LARGE, clock, brief),
         machine: machine::describe(disk::sync_time(directory)),
     };
     std::fs::write(file, report::page(&results)).expect("the page is written");

@@ -2,6 +2,8 @@
 
 use std::fmt::Write;
 
+use crate::arranging::Arranging;
+use crate::backup::Sizes;
 use crate::cases::Floor;
 use crate::chains::Chain;
 use crate::growth::Growth;
@@ -37,6 +39,8 @@ pub struct Results {
     pub workloads: Vec<Workload>,
     pub starts: Vec<Start>,
     pub chains: Vec<Chain>,
+    pub backups: Vec<Sizes>,
+    pub arranging: [Arranging; 2],
 }
 
 pub fn page(results: &Results) -> String {
@@ -59,6 +63,10 @@ pub fn page(results: &Results) -> String {
     page += include_str!("../page/workload.md");
     results.workloads.iter().for_each(|workload| page += &rates(workload));
     page += include_str!("../page/tail.md");
+    page += include_str!("../page/backup.md");
+    page += &backups(&results.backups);
+    page += include_str!("../page/arranging.md");
+    page += &arranging(&results.arranging);
     page
 }
 
@@ -261,5 +269,31 @@ fn uses(workload: &Workload) -> String {
     }
     let rest = workload.uses.map(|shares| percent(1.0 - shares.iter().sum::<f64>()));
     line(&mut page, &[&["the client's own".to_string()][..], &rest[..]].concat());
+    page
+}
+
+fn backups(list: &[Sizes]) -> String {
+    let mut page = String::new();
+    let mut heads = ["store", "slots occupied", "bytes"].map(String::from).to_vec();
+    heads.extend(list[0].compressed.iter().map(|(compressor, _)| compressor.join(" ")));
+    head(&mut page, &heads);
+    for sizes in list {
+        let occupied = format!("{} of {}", sizes.occupied, sizes.slots);
+        let mut cells = vec![sizes.store.clone(), occupied, sizes.bytes.to_string()];
+        let shown =
+            |[rows, columns]: [usize; 2]| format!("{rows}, {columns} ({})", ratio(columns as f64, rows as f64));
+        cells.extend(sizes.compressed.iter().map(|(_, both)| shown(*both)));
+        line(&mut page, &cells);
+    }
+    page
+}
+
+fn arranging(list: &[Arranging]) -> String {
+    let mut page = String::new();
+    head(&mut page, &["call", "library, ns", "plain, ns", "library / plain", "copy, ns"].map(String::from));
+    for Arranging { call, library, plain, copy } in list {
+        let [ns, plain_ns, copy_ns] = [library, plain, copy].map(|time| format!("{time:.0}"));
+        line(&mut page, &[format!("`{call}`"), ns, plain_ns, ratio(*library, *plain), copy_ns]);
+    }
     page
 }

@@ -156,6 +156,10 @@ impl<S: Server> Depot<S> {
         answer.value
     }
 
+    pub fn stored(&self) -> &[u32] {
+        self.side.area(Area::Stored)
+    }
+
     fn word(&self, object: u32, field: usize) -> u32 {
         self.side.area(Area::Received)[word_at(object, field)]
     }
@@ -265,14 +269,17 @@ impl<S: Server> Depot<S> {
         }
     }
 
-    /// Where the log has no room for a transaction and the steps beside it, its pages are stored and it
-    /// is emptied.
+    /// Where the log has no room for a transaction and the steps beside it, it is emptied.
     fn drain(&mut self) {
         // A transaction's records, those reserved for its abort, and sweeps.
         let needed = 2 * RECORDS + self.plan.steps;
-        if self.side.area(Area::Counts)[RECEIVED_COUNT] as usize + needed <= self.plan.size.records {
-            return;
+        if self.side.area(Area::Counts)[RECEIVED_COUNT] as usize + needed > self.plan.size.records {
+            self.settle();
         }
+    }
+
+    /// Stores the changed pages and empties the log.
+    pub fn settle(&mut self) {
         self.force_all();
         for page in 0..self.plan.size.pages {
             if self.dirty[page] {
@@ -290,7 +297,7 @@ impl<S: Server> Depot<S> {
     }
 }
 
-fn free_in(received: &[u32], page: usize) -> impl Iterator<Item = u32> {
+pub fn free_in(received: &[u32], page: usize) -> impl Iterator<Item = u32> {
     let map = received[map_at(page)];
     (0..SLOTS).filter(move |slot| map & 1 << slot == 0).map(move |slot| object_at(page, slot))
 }

@@ -1,7 +1,7 @@
 use std::fmt;
 
 use crate::lend::*;
-use crate::{Answer, Store, CHAIN_WORDS, OBJECT_WORDS, PAGE_WORDS, RECORD_WORDS, SHARE_WORDS};
+use crate::{whole, Answer, Store, CHAIN_WORDS, OBJECT_WORDS, PAGE_WORDS, RECORD_WORDS, SHARE_WORDS};
 
 /// Why a store is not held.
 #[derive(Clone, Copy, PartialEq, Eq, Debug)]

@@ -1,7 +1,5 @@
 //! The C functions, and how the areas are lent to them.
 
-use crate::Answer;
-
 /// Declares the C functions: the six areas as pointer and length in words, then the call's own
 /// arguments. include/kophdaen.h says which areas a call only reads.
 macro_rules! declare {
@@ -84,14 +82,3 @@ macro_rules! lend {
     };
 }
 pub(crate) use lend;
-
-extern "C" {
-    fn kophdaen_whole(pages: *const u32, pages_words: usize) -> u64;
-}
-
-/// Whether every object that the root reaches is occupied, in one page area (stored, copies or
-/// received): the value is 1 if so, else 0. Refused with 1 where the length is not that of 1 to 256 pages.
-pub fn whole(pages: &[u32]) -> Answer {
-    // SAFETY: a slice, lent as pointer and length; the library only reads it.
-    Answer::from_code(unsafe { kophdaen_whole(pages.as_ptr(), pages.len()) })
-}

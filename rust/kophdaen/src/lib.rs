@@ -53,7 +53,8 @@ pub fn work_words(pages: usize, records: usize) -> usize {
 
 mod held;
 mod lend;
+mod pages;
 mod store;
 pub use held::{Held, NotHeld};
-pub use lend::whole;
+pub use pages::{from_columns, to_columns, whole};
 pub use store::Store;

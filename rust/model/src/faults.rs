@@ -2,18 +2,23 @@
 //! The model itself is [`Fault::None`].
 
 macro_rules! faults {
-    (calls: $( $name:ident : $what:literal, )*; whole: $( $of_whole:ident : $what_of_whole:literal, )*) => {
+    (calls: $( $name:ident : $what:literal, )*;
+     whole: $( $of_whole:ident : $what_of_whole:literal, )*;
+     columns: $( $of_columns:ident : $what_of_columns:literal, )*) => {
         #[derive(Clone, Copy, PartialEq, Eq, Debug)]
         pub enum Fault {
             None,
             $( $name, )*
             $( $of_whole, )*
+            $( $of_columns, )*
         }
 
         /// Every fault of the calls with what it does wrong.
         pub const FAULTS: &[(Fault, &str)] = &[ $( (Fault::$name, $what), )* ];
         /// .. and of `whole`.
         pub const WHOLE_FAULTS: &[(Fault, &str)] = &[ $( (Fault::$of_whole, $what_of_whole), )* ];
+        /// .. and of `to_columns` and `from_columns`.
+        pub const COLUMN_FAULTS: &[(Fault, &str)] = &[ $( (Fault::$of_columns, $what_of_columns), )* ];
     };
 }
 
@@ -261,4 +266,27 @@ faults! {
     WholePassesOverAbove: "a reference above 16 x P is passed over",
     WholeOfBrokenPage: "a length that is not whole pages is taken",
     WholeOfMorePages: "257 pages are taken",
+    ; columns:
+    ToColumnsTurnsBack: "to_columns arranges as from_columns does: 8 and 16 exchanged",
+    FromColumnsTurnsOn: "from_columns arranges as to_columns does",
+    ColumnsNotTurned: "the page is copied as it is",
+    ColumnsExchangedInSquare: "slot and word are exchanged among slots 0 to 7",
+    ColumnsFromLastSlot: "row w is word w of slots 15 to 0",
+    ColumnsHeadLast: "the map comes last",
+    ColumnsHeadTurned: "the map is turned with the rows, and word 128 stays",
+    ColumnsHeadUnwritten: "word 0 of out keeps what it had",
+    ColumnsLastWordUnwritten: "word 128 of out keeps what it had",
+    ColumnsTellWords: "the value is 129",
+    ColumnsTellHead: "the value is word 0",
+    ColumnsOfAnyLength: "the length of page is not tested",
+    ColumnsIntoAnyLength: "the length of out is not tested",
+    ColumnsIntoLongerOut: "a longer out is taken, and the rest of it cleared",
+    ColumnsOfEqualLengths: "lengths that are wrong alike are taken",
+    ColumnsRefusedClearsOut: "a refused call clears out",
+    ColumnsHeadBeforeLengths: "word 0 of out is written before the lengths are tested",
+    ColumnsOfSeveralPages: "DECISIONS 82: several whole pages are turned, each by itself",
+    ColumnsUnsoundMapRefused: "DECISIONS 82: a map above 65535 is refused with 14",
+    ColumnsMapMasked: "DECISIONS 82: of a map above 65535 the low 16 bits are carried over",
+    ColumnsFreeSlotsEmptied: "DECISIONS 82: words in free slots are not carried over",
+    ColumnsHighReferencesDropped: "DECISIONS 82: references above 4096 are not carried over",
 }

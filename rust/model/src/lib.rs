@@ -1,4 +1,4 @@
-//! Document 01's page server and collector, and document 02's L1 to L4, over the same lent words as
+//! Document 01's page server and collector, and document 02's L1 to L5, over the same lent words as
 //! the proved library.
 //!
 //! Written from documents 01 and 02, docs/LAYOUT.md and docs/DECISIONS.md, not from the library's source.
@@ -6,6 +6,7 @@
 //! at the first refusal. The fault switch is the tests' own: with [`Fault::None`] this is the model.
 
 mod chain;
+mod columns;
 pub mod faults;
 mod holder;
 pub mod layout;
@@ -15,6 +16,7 @@ mod share;
 pub mod sound;
 mod whole;
 
+pub use columns::{from_columns, to_columns};
 pub use faults::Fault;
 use layout::*;
 use recover::{free_map, recovered, take_effect};

@@ -1,6 +1,6 @@
 //! Document 01's fourteen examples of the refusal table, its bench input and its cases on L, each
 //! with the answers that the document gives; and the examples of chains, of holders, of marks, of
-//! passes and of their shares.
+//! passes and of their shares, and of a page by columns.
 
 use calls::Call::*;
 use model::layout::*;
@@ -13,6 +13,7 @@ use crate::passes;
 use crate::run::*;
 use crate::shares;
 use crate::sides::Kind;
+use crate::turns;
 
 /// An action with its answer, number and value (0,0 for a poke or a cut), and, where the example tells it, every word
 /// of the buffer after it, and words of the areas, from one of them on.
@@ -159,5 +160,5 @@ pub fn run(left: Kind, right: Kind) -> Result<u64, String> {
             calls += u64::from(step.action.call().is_some());
         }
     }
-    Ok(calls)
+    Ok(calls + turns::run(left, right)?)
 }

@@ -2,10 +2,11 @@
 //! with wrong behaviours put into the model.
 //!
 //!   compare examples
-//!   compare random [--seed N] [--calls N] [--large]
-//!   compare whole  [--seed N] [--calls N]
-//!   compare open   [--seed N] [--calls N]
-//!   compare power  [--seed N] [--calls N] [--write FILE]
+//!   compare random  [--seed N] [--calls N] [--large]
+//!   compare whole   [--seed N] [--calls N]
+//!   compare columns [--seed N] [--calls N]
+//!   compare open    [--seed N] [--calls N]
+//!   compare power   [--seed N] [--calls N] [--write FILE]
 //!   compare show FAULT [--seed N] [--calls N]
 //!   compare oracle PROGRAM [--seed N] [--calls N] [--large]
 //!
@@ -13,6 +14,7 @@
 
 mod actions;
 mod chains;
+mod columns;
 mod crowd;
 mod examples;
 mod generate;
@@ -29,6 +31,7 @@ mod run;
 mod shares;
 mod sides;
 mod steps;
+mod turns;
 mod whole;
 
 use std::process::exit;
@@ -82,6 +85,7 @@ fn main() {
         "examples" => run_examples(),
         "random" => run_random(&options),
         "whole" => whole::run(options.seed, options.calls),
+        "columns" => columns::run(options.seed, options.calls),
         "open" => open::run(options.seed, options.calls),
         "power" => power::run(options.seed, options.calls, options.write.as_deref()),
         "show" => power::show(&options.program.unwrap_or_else(usage), options.seed, options.calls),
@@ -95,7 +99,7 @@ fn main() {
 }
 
 fn usage<T>() -> T {
-    eprintln!("usage: compare examples | random | whole | open | power | show FAULT | oracle PROGRAM [--seed N] [--calls N] [--large] [--write FILE]");
+    eprintln!("usage: compare examples | random | whole | columns | open | power | show FAULT | oracle PROGRAM [--seed N] [--calls N] [--large] [--write FILE]");
     exit(2)
 }
 

@@ -2,13 +2,13 @@
 
 use std::fmt::Write;
 
-use model::faults::{FAULTS, WHOLE_FAULTS};
+use model::faults::{COLUMN_FAULTS, FAULTS, WHOLE_FAULTS};
 use model::Fault;
 
 use crate::generate::Scope;
 use crate::run::{report, Tally};
 use crate::sides::Kind;
-use crate::{examples, random_lists, whole};
+use crate::{columns, examples, random_lists, turns, whole};
 
 /// The side that a fault is held against.
 const UNCHANGED: Kind = Kind::Library;
@@ -19,22 +19,27 @@ fn noticed(fault: Fault, seed: u64, calls: u64, scope: Scope) -> Option<u64> {
     random_lists(UNCHANGED, faulty, seed, calls, scope, &mut Tally::new()).map(|(_, calls)| calls)
 }
 
-/// Prints how the named fault shows: the shrunk list and the least state, or the page area.
+/// Prints how the named fault shows: the shrunk list and the least state, or the page area, or the page.
 pub fn show(name: &str, seed: u64, calls: u64) -> bool {
     std::panic::set_hook(Box::new(|_| {}));
-    let Some(&(fault, what)) = FAULTS.iter().chain(WHOLE_FAULTS).find(|(fault, _)| format!("{fault:?}") == name)
-    else {
+    let mut faults = FAULTS.iter().chain(WHOLE_FAULTS).chain(COLUMN_FAULTS);
+    let Some(named) = faults.find(|(fault, _)| format!("{fault:?}") == name) else {
         println!("no fault is named {name}");
         return false;
     };
+    let &(fault, what) = named;
     println!("{fault:?}: {what}");
     let faulty = Kind::Model(fault);
-    let list = random_lists(UNCHANGED, faulty, seed, calls, Scope::Small, &mut Tally::new());
-    match (list, whole::noticed(fault, seed, calls)) {
-        (Some((list, _)), _) => report(&list, UNCHANGED, faulty),
-        (None, Some((_, area))) => whole::report(&area, fault),
-        (None, None) => println!("not noticed in {calls} calls and page areas"),
-    }
+    let sides = [UNCHANGED, faulty];
+    let shows = if WHOLE_FAULTS.contains(named) {
+        whole::noticed(fault, seed, calls).map(|(_, area)| whole::report(&area, fault))
+    } else if COLUMN_FAULTS.contains(named) {
+        columns::noticed(sides, seed, calls).map(|(_, lent)| lent.report(sides))
+    } else {
+        let list = random_lists(UNCHANGED, faulty, seed, calls, Scope::Small, &mut Tally::new());
+        list.map(|(list, _)| report(&list, UNCHANGED, faulty))
+    };
+    shows.unwrap_or_else(|| println!("not noticed in {calls} calls, page areas or pages"));
     true
 }
 
@@ -42,21 +47,40 @@ fn shown(noticed: Option<u64>) -> String {
     noticed.map_or("no".to_string(), |n| n.to_string())
 }
 
-/// The faults of the calls: the lines of their table, and how many are not noticed.
-fn calls_table(seed: u64, calls: u64) -> (String, usize) {
-    let mut table = String::new();
-    let mut missed = 0;
+fn yes(noticed: bool) -> &'static str {
+    if noticed {
+        "yes"
+    } else {
+        "no"
+    }
+}
+
+/// The lines of a table of faults, and how many of them are not noticed.
+#[derive(Default)]
+struct Table {
+    lines: String,
+    missed: usize,
+}
+
+impl Table {
+    fn add(&mut self, fault: Fault, noticed: Option<u64>, cells: &[&str]) {
+        self.missed += usize::from(noticed.is_none());
+        let cells = cells.join(" | ");
+        println!("{:>8}  {fault:?}: {cells}", shown(noticed));
+        writeln!(self.lines, "| `{fault:?}` | {cells} |").unwrap();
+    }
+}
+
+/// The faults of the calls.
+fn calls_table(seed: u64, calls: u64) -> Table {
+    let mut table = Table::default();
     for &(fault, what) in FAULTS {
         let by_example = examples::run(UNCHANGED, Kind::Model(fault)).is_err();
         let by_calls = noticed(fault, seed, calls / 10, Scope::Legal);
         let by_all = noticed(fault, seed, calls, Scope::Small);
-        missed += usize::from(by_all.is_none());
-        let example = if by_example { "yes" } else { "no" };
-        let [legal, all] = [by_calls, by_all].map(shown);
-        println!("{all:>8} {legal:>8} {example:>4}  {fault:?}: {what}");
-        writeln!(table, "| `{fault:?}` | {what} | {example} | {legal} | {all} |").unwrap();
+        table.add(fault, by_all, &[what, yes(by_example), &shown(by_calls), &shown(by_all)]);
     }
-    (table, missed)
+    table
 }
 
 /// Faults that are put into both sides, so that the tally of steps alone can notice them.
@@ -72,55 +96,63 @@ const TALLIED: [Fault; 9] = [
     Fault::ReopenKeepsPass,
 ];
 
-/// .. the lines of their table, and how many are not noticed.
-fn tally_table(seed: u64, calls: u64) -> (String, usize) {
-    let mut table = String::new();
-    let mut missed = 0;
+fn tally_table(seed: u64, calls: u64) -> Table {
+    let mut table = Table::default();
     for fault in TALLIED {
         let both = Kind::Model(fault);
         let found = random_lists(both, both, seed, calls, Scope::Legal, &mut Tally::new()).map(|(_, calls)| calls);
-        missed += usize::from(found.is_none());
-        let all = shown(found);
-        println!("{all:>8} by the tally  {fault:?}");
-        writeln!(table, "| `{fault:?}` | {all} |").unwrap();
+        table.add(fault, found, &[&shown(found)]);
     }
-    (table, missed)
+    table
 }
 
-/// The faults of `whole`, likewise.
-fn whole_table(seed: u64, areas: u64) -> (String, usize) {
-    let mut table = String::new();
-    let mut missed = 0;
+/// The faults of `whole`.
+fn whole_table(seed: u64, areas: u64) -> Table {
+    let mut table = Table::default();
     for &(fault, what) in WHOLE_FAULTS {
         let by_areas = whole::noticed(fault, seed, areas).map(|(n, _)| n);
-        missed += usize::from(by_areas.is_none());
-        let all = shown(by_areas);
-        println!("{all:>8} page areas    {fault:?}: {what}");
-        writeln!(table, "| `{fault:?}` | {what} | {all} |").unwrap();
+        table.add(fault, by_areas, &[what, &shown(by_areas)]);
     }
-    (table, missed)
+    table
+}
+
+/// The faults of `to_columns` and `from_columns`: in both sides, they show only where a page is not given back.
+fn columns_table(seed: u64, pages: u64) -> Table {
+    let mut table = Table::default();
+    for &(fault, what) in COLUMN_FAULTS {
+        let faulty = Kind::Model(fault);
+        let by_example = turns::run(UNCHANGED, faulty).is_err();
+        let by = |sides| columns::noticed(sides, seed, pages).map(|(n, _)| n);
+        let [by_pages, not_back] = [by([UNCHANGED, faulty]), by([faulty, faulty])];
+        table.add(fault, by_pages, &[what, yes(by_example), &shown(not_back), &shown(by_pages)]);
+    }
+    table
 }
 
 pub fn run(seed: u64, calls: u64, write: Option<&str>) -> bool {
     std::panic::set_hook(Box::new(|_| {})); // a faulty model may panic: that is noticed too
-    let (table, missed) = calls_table(seed, calls);
-    let (tally_table, missed_of_tally) = tally_table(seed, calls / 10);
-    let (whole_table, missed_of_whole) = whole_table(seed, calls / 10);
-    let missed = missed + missed_of_tally + missed_of_whole;
-    let faults = FAULTS.len() + WHOLE_FAULTS.len();
+    let tenth = calls / 10;
+    let tables =
+        [calls_table(seed, calls), tally_table(seed, tenth), whole_table(seed, tenth), columns_table(seed, tenth)];
+    let missed: usize = tables.iter().map(|table| table.missed).sum();
+    let faults = FAULTS.len() + WHOLE_FAULTS.len() + COLUMN_FAULTS.len();
     println!("power: {faults} faults against {}, {missed} not noticed", UNCHANGED.name());
     if let Some(path) = write {
+        let [table, tally_table, whole_table, columns_table] =
+            tables.each_ref().map(|table| table.lines.trim_end());
         let text = format!(
             include_str!("tests.md"),
             seed = seed,
             faults = FAULTS.len(),
             whole_faults = WHOLE_FAULTS.len(),
+            column_faults = COLUMN_FAULTS.len(),
             calls = calls,
-            tenth = calls / 10,
-            table = table.trim_end(),
+            tenth = tenth,
+            table = table,
             tallied = TALLIED.len(),
-            tally_table = tally_table.trim_end(),
-            whole_table = whole_table.trim_end()
+            tally_table = tally_table,
+            whole_table = whole_table,
+            columns_table = columns_table
         );
         if let Err(error) = std::fs::write(path, text) {
             println!("{path}: {error}");

@@ -83,7 +83,7 @@ impl Tally {
     }
 }
 
-fn show(answer: u64) -> String {
+pub fn show(answer: u64) -> String {
     format!("{},{}", answer >> 32, answer & 0xffff_ffff)
 }
 
@@ -93,7 +93,7 @@ pub fn unwritten(words: usize) -> Vec<u32> {
 }
 
 /// Where two buffers differ.
-fn unlike(left: &[u32], right: &[u32]) -> Result<(), String> {
+pub fn unlike(left: &[u32], right: &[u32]) -> Result<(), String> {
     match left.iter().zip(right).position(|(l, r)| l != r) {
         Some(at) => Err(format!("word {at} of the buffer: {} and {}", left[at], right[at])),
         None => Ok(()),

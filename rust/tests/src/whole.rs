@@ -22,11 +22,16 @@ pub fn noticed(fault: Fault, seed: u64, areas: u64) -> Option<(u64, Vec<u32>)> {
     })
 }
 
-/// Prints a page area on which the two differ: its words other than 0.
+/// Prints a page area on which the two differ.
 pub fn report(area: &[u32], fault: Fault) {
     let [library, model] = answers(area, fault);
     println!("DIFFERENCE: whole of {} words is {library:#x} by the library, {model:#x} by the model", area.len());
-    let words = area.iter().enumerate().filter(|(_, &word)| word != 0);
+    print_words(area);
+}
+
+/// Prints the words other than 0.
+pub fn print_words(words: &[u32]) {
+    let words = words.iter().enumerate().filter(|(_, &word)| word != 0);
     words.for_each(|(at, word)| println!("  {at}: {word}"));
 }
 

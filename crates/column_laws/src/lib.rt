@@ -1,0 +1,1 @@
+// A page by columns: what is claimed of it, and laws, alone.

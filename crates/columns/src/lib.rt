@@ -1,0 +1,1 @@
+// A page by columns. The definitions stand in specs/.

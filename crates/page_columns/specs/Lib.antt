@@ -1,0 +1,2 @@
+-- A page by columns and back: a table laid out row by row.
+pub mod Laying
