@@ -11,15 +11,15 @@ use Rattle.columns.specs.Columns.{grid, joined, columnsOf, toColumns, slotsIn, 
 use Rattle.columns.specs.ColumnCalls.{arrangeAnswer, arranged}
 use Rattle.computing.specs.Stores.{sameWords}
 
--- a row: a page, and it by columns; columns, and the page that has them; a page that each arrangement turns into this one and the other
--- one turns back; a page and an out of these lengths, which both calls refuse with this number, out as it was
+-- a row: a page, and the same by columns; columns, and the page that has them; a page that either order gives back; a number with which
+-- both calls refuse a page and an out of these lengths, out as it was
 pub data Row : Type 0 where
   turns : List ℕ → List ℕ → Row
   turnsBack : List ℕ → List ℕ → Row
   returns : List ℕ → Row
   refusal : ℕ → ℕ → ℕ → Row
 
--- the words that a page is made of
+-- the words 1, 2, .. n
 abbrev pub counted : ℕ → List ℕ
 counted n = tabulate (λ i. i + 1) n
 
@@ -28,12 +28,12 @@ unfoldable pub apart : ℕ → ℕ → ℕ → List ℕ
 apart a m zero = []
 apart a m (suc n) = a ∷ apart (a + m) m n
 
--- n times so many, each run one later than the run before
+-- k runs of n words m apart, each from one later than the run before
 unfoldable pub runs : ℕ → ℕ → ℕ → ℕ → List ℕ
 runs a m n zero = []
 runs a m n (suc k) = apart a m n ++ runs (a + 1) m n k
 
--- a page that is lent to be filled, and one of another length
+-- n words that are lent to be filled
 abbrev pub used : ℕ → List ℕ
 used n = replicate n 7
 

@@ -34,6 +34,10 @@ turned p e = let f = columns-full (rowsOf p 0) in record {
 
 -- the page that has these columns
 module _ (p : List ℕ) (e : length p ≡ pageWords) where
+  back-slot : (s w : ℕ) → s < slotCount → w < slotWords → slotWord (fromColumns p) 0 s w ≡ getD p (columnAt w s) 0
+  unfolding fromColumns
+  back-slot s w hs hw = word-laid headWords slotCount slotWords p (slotsIn p) (omega arith) (slots-full p) s w hs hw ∙ slots-at p s w hs hw
+
   back-words : length (fromColumns p) ≡ pageWords
   unfolding fromColumns
   back-words = length-laid headWords slotCount slotWords p (slotsIn p) (omega arith) (slots-full p)
@@ -41,10 +45,6 @@ module _ (p : List ℕ) (e : length p ≡ pageWords) where
   back-head : (i : ℕ) → i < headWords → getD (fromColumns p) i 0 ≡ getD p i 0
   unfolding fromColumns
   back-head = head-laid headWords slotCount slotWords p (slotsIn p) (omega arith) (slots-full p)
-
-  back-slot : (s w : ℕ) → s < slotCount → w < slotWords → slotWord (fromColumns p) 0 s w ≡ getD p (columnAt w s) 0
-  unfolding fromColumns
-  back-slot s w hs hw = word-laid headWords slotCount slotWords p (slotsIn p) (omega arith) (slots-full p) s w hs hw ∙ slots-at p s w hs hw
 
 pub turned-back : TurnedBack
 turned-back p e = record {

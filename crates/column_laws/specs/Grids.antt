@@ -1,10 +1,10 @@
 -- Rows of one length, one after the other: their entries, where their words stand, and lists that agree at every row and place. Assumes
 -- nothing.
-use Prim.Native.Nat.{ℕ, zero, suc, _+_, _*_, _-_, _/_, _%_, _<_, _≤_, min}
+use Prim.Native.Nat.{ℕ, zero, suc, _+_, _*_, _-_, _/_, _%_, _<_, _≤_}
 use mathlib.Core.Path.{_≡_, sym, ap, subst, _∙_}
 use mathlib.Core.List.{List, [], _∷_, _++_}
-use lib.ListN.{length, length-append, getD, take, length-take, take-append-drop, drop, List·getD-append}
-use lib.Seq.{ext-getD, getD-append-add}
+use lib.ListN.{length, length-append, getD, take, length-take, List·getD-append}
+use lib.Seq.{ext-getD, getD-append-add, getD-take}
 use native.Mathlib.Decide.{ℕ-discrete}
 use native.Mathlib.Nat.{mul-zero, mul-suc, mod-lt, div-add-mod', div-lt-iff-lt-mul, mul-comm}
 use native.Mathlib.Omega.{arith}
@@ -72,22 +72,26 @@ joined-at (suc n) m (r ∷ t) f (suc i) j hi hj = let e = full-first n m r t f i
     ∙ getD-append-add r (joined t) (m * i + j) 0
     ∙ joined-at n m t (full-rest n m r t f) i j (omega arith) hj
 
+-- the first words of a list, and the first rows of a table
+pub first-length : {A : Type 0} (k : ℕ) (l : List A) → k ≤ length l → length (take k l) ≡ k
+first-length k l room = length-take k l ∙ omega arith
+
+pub full-first-rows : (n m k : ℕ) (t : List (List ℕ)) → Full n m t → k ≤ n → Full k m (take k t)
+full-first-rows n m k t f h = record {
+  rows = first-length k t (let e = f .rows in omega arith);
+  words = λ i hi. ap length (getD-take k t i [] hi) ∙ f .words i (omega arith);
+}
+
 -- the first h words of a list, then the rows of a table
 module _ (h n m : ℕ) (p : List ℕ) (t : List (List ℕ)) (room : h ≤ length p) (f : Full n m t) where
-  head-length : length (take h p) ≡ h
-  head-length = length-take h p ∙ omega arith
-
   pub length-laid : length (take h p ++ joined t) ≡ h + m * n
-  length-laid = rw (length-append, head-length, length-joined n m t f)
+  length-laid = rw (length-append, first-length h p room, length-joined n m t f)
 
   pub head-laid : (i : ℕ) → i < h → getD (take h p ++ joined t) i 0 ≡ getD p i 0
-  head-laid i hi = let e = head-length in
-      List·getD-append (take h p) (joined t) 0 i (omega arith)
-      ∙ sym (List·getD-append (take h p) (drop h p) 0 i (omega arith))
-      ∙ ap (λ (l : List ℕ). getD l i 0) (take-append-drop h p)
+  head-laid i hi = let e = first-length h p room in List·getD-append (take h p) (joined t) 0 i (omega arith) ∙ getD-take h p i 0 hi
 
   pub word-laid : (i j : ℕ) → i < n → j < m → getD (take h p ++ joined t) (h + m * i + j) 0 ≡ getD (getD t i []) j 0
-  word-laid i j hi hj = let e = head-length in
+  word-laid i j hi hj = let e = first-length h p room in
       ap (λ (k : ℕ). getD (take h p ++ joined t) k 0) (omega arith)
       ∙ getD-append-add (take h p) (joined t) (m * i + j) 0
       ∙ joined-at n m t f i j hi hj

@@ -6,13 +6,13 @@ use Prim.Native.Nat.{ℕ}
 use mathlib.Core.Path.{sym, ap, _∙_}
 use mathlib.Core.List.{List}
 use Rattle.columns.specs.Columns.{laidOut, columnsOf, toColumns}
-use Rattle.page_columns.specs.Laying.{head-laid-out}
 use Rattle.column_laws.specs.Arranging.{both-pages, refused, filled}
+use Rattle.page_columns.specs.Laying.{head-laid-out}
 use Rattle.page_columns.proofs.to_columns.Statement.{statement}
 use Rattle.page_columns.proofs.to_columns.Tie as tie
 
 returns : tie.Need-returns
-returns c = refused _ _ toColumns (sym (c .before .two-pages .ensures) ∙ not-true _ (c .if1 .taken))
+returns c = refused _ _ _ (sym (c .before .two-pages .ensures) ∙ not-true _ (c .if1 .taken))
 
 put-head-requires : tie.Need-put-head-requires
 put-head-requires c κs = let a = c .before .before .before .before .before .args in let h = both-pages (a .page .now) (a .out .now) (sym (c .before .before .two-pages .ensures) ∙ not-false _ (c .before .if1 .left)) in (omega arith, omega arith)
@@ -30,7 +30,7 @@ returns-2 c =
     let t = sym (c .before .before .before .before .before .before .before .before .before .before .two-pages .ensures) ∙ not-false _ (c .before .before .before .before .before .before .before .before .before .if1 .left) in
     let h = both-pages (a .page .now) (a .out .now) t in
     let table = c .before .before .before .before .rows-of .result in
-    filled (a .page .now) (a .out .now) toColumns t _ (c .before .before .put-columns .ensures
+    filled (a .page .now) (a .out .now) _ t _ (c .before .before .put-columns .ensures
     ∙ ap (λ (l : List ℕ). laidOut l (columnsOf table)) (c .before .before .before .before .before .before .before .put-head .ensures)
     ∙ head-laid-out (a .page .now) (a .out .now) (columnsOf table) (omega arith)
     ∙ ap (λ (t : List (List ℕ)). laidOut (a .page .now) (columnsOf t)) (c .before .before .before .before .rows-of .ensures))

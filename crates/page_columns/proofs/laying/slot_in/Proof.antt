@@ -2,10 +2,10 @@
 use borrow.Author.Needs.{needs}
 use native.Mathlib.Omega.{arith}
 use Prim.Native.Nat.{ℕ, _≤_, _-_}
-use mathlib.Core.Path.{_≡_, refl, ap, _∙_}
-use mathlib.Core.List.{[], _++_}
+use mathlib.Core.Path.{_≡_, refl, ap}
+use mathlib.Core.List.{_++_}
 use lib.ListN.{drop, getD, replicate}
-use Rattle.pages.specs.Geometry.{slotCount, slotWords}
+use Rattle.pages.specs.Geometry.{slotWords}
 use Rattle.pages.specs.Table.{tabulate}
 use Rattle.columns.specs.Columns.{columnAt}
 use Rattle.page_rows.specs.TableLaws.{tab-none, tab-next, tab-end}

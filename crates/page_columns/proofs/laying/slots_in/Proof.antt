@@ -1,8 +1,8 @@
 -- Invariant: the rows passed are the slots, the rest still zero. Assumes nothing.
 use borrow.Author.Needs.{needs}
 use native.Mathlib.Omega.{arith}
-use Prim.Native.Nat.{ℕ, _≤_, _-_}
-use mathlib.Core.Path.{_≡_, refl, ap, _∙_}
+use Prim.Native.Nat.{_≤_, _-_}
+use mathlib.Core.Path.{_≡_, refl}
 use mathlib.Core.List.{[], _++_}
 use lib.ListN.{drop, getD, replicate}
 use Rattle.pages.specs.Geometry.{slotCount, slotWords}
