@@ -23,7 +23,7 @@ use Rattle.calls.specs.Room.{roomWithin}
 use Rattle.calls.specs.Transactions.{endedTables, changesOf, rolledBack, restored, abortTests, aborted}
 use Rattle.acceptance.specs.Entered.{Open}
 use Rattle.acceptance.specs.Transactions.{abort-facts}
-use Rattle.store_ops.specs.Logs.{leftIn, counted, open-kept, open-undoing}
+use Rattle.log_ops.specs.Logs.{leftIn, counted, open-kept, open-undoing}
 use Rattle.aborts.specs.Rolling.{Undoable}
 
 -- the check, of the lists that it reads

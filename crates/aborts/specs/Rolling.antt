@@ -24,7 +24,7 @@ use Rattle.areas.specs.Layout.{HasUndoing, undoingAt}
 use Rattle.areas.specs.Tables.{undoes}
 use Rattle.areas.specs.Ranges.{recordsIn}
 use Rattle.calls.specs.Transactions.{rolledBack}
-use Rattle.store_ops.specs.Logs.{Kept, Fits, leftIn}
+use Rattle.log_ops.specs.Logs.{Kept, Fits, leftIn}
 
 -- what the walk needs of the pages a, the log g, the counts k and the tables w of n pages: sound records with an undoing word each, and
 -- room for the undoing records and one more

@@ -8,7 +8,7 @@ ghost use Rattle.areas.specs.Answers.{verdict};
 ghost use Rattle.areas.specs.Areas.{areas, out};
 ghost use Rattle.areas.specs.Layout.{HasUndoing};
 ghost use Rattle.calls.specs.Transactions.{abortTests, aborted};
-ghost use Rattle.store_ops.specs.Logs.{Kept, counted};
+ghost use Rattle.log_ops.specs.Logs.{Kept, counted};
 ghost use Rattle.aborts.specs.Rolling.{Undoable};
 use super::restoring::restore;
 use super::undoing::abort_log;
@@ -29,7 +29,7 @@ pub fn abort_check(log: &[u32], counts: &[u32], work: &[u32], n: usize, t: u32) 
     if !store_ops::has(work, layout::ACTIVE_AT, t) {
         return Check::Refuse(Refusal::WrongState);
     }
-    let left = store_ops::changes_left(log, counts, work, n, t);
+    let left = log_ops::changes_left(log, counts, work, n, t);
     if transactions::room_within(log, counts, left as usize + 1) {
         Check::Accept
     } else {

@@ -5,7 +5,7 @@ ghost use lib.ListN.{length, getD};
 ghost use Rattle.records.specs.Records.{abortedOf};
 ghost use Rattle.areas.specs.Areas.{areas, appended};
 ghost use Rattle.calls.specs.Transactions.{rolledBack};
-ghost use Rattle.store_ops.specs.Logs.{leftIn};
+ghost use Rattle.log_ops.specs.Logs.{leftIn};
 ghost use Rattle.aborts.specs.Rolling.{Undoable};
 use areas::layout;
 use log_turns::Turn;
@@ -23,7 +23,7 @@ fn roll_back(
     ensures { λ _. ⌜ (areas [] [] (now (received .exit)) (now (log .exit)) (now (counts .exit)) [] ≡ rolledBack (now (log .entry)) (leftIn (now (log .entry)) (now (counts .entry)) (now (work .entry)) n t) (areas [] [] (now (received .entry)) (now (log .entry)) (now (counts .entry)) [])) × (getD (now (counts .exit)) 0 0 ≡ getD (now (counts .entry)) 0 0 + length (leftIn (now (log .entry)) (now (counts .entry)) (now (work .entry)) n t)) ⌝ }
 {
     let mut i = counts[layout::RECEIVED] as usize;
-    let mut left = store_ops::changes_left(log, counts, work, n, t);
+    let mut left = log_ops::changes_left(log, counts, work, n, t);
     let mut undone: u32 = 0;
     while 0 < left {
         i -= 1;
@@ -31,7 +31,7 @@ fn roll_back(
         let turn = log_turns::turn_at(r, work[layout::undoing_at(n, i)], t, undone);
         match turn {
             Turn::Left => {
-                let _ = store_ops::append(received, log, counts, record_ops::undoing(r));
+                let _ = log_ops::append(received, log, counts, record_ops::undoing(r));
                 left -= 1;
             }
             Turn::Past(p) => undone = p,
@@ -52,5 +52,5 @@ pub fn abort_log(
     ensures { λ x. ⌜ (areas [] [] (now (received .exit)) (now (log .exit)) (now (counts .exit)) [] ≡ appended (rolledBack (now (log .entry)) (leftIn (now (log .entry)) (now (counts .entry)) (now (work .entry)) n t) (areas [] [] (now (received .entry)) (now (log .entry)) (now (counts .entry)) [])) (abortedOf t)) × (x ≡ getD (now (counts .exit)) 0 0) ⌝ }
 {
     roll_back(received, log, counts, work, n, t);
-    store_ops::append(received, log, counts, records::aborted_of(t))
+    log_ops::append(received, log, counts, records::aborted_of(t))
 }

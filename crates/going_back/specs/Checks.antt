@@ -22,7 +22,7 @@ use Rattle.calls.specs.Transactions.{changesOf}
 use Rattle.calls.specs.Marks.{isMark, markTests, sinceMark, backTests}
 use Rattle.acceptance.specs.Entered.{Open}
 use Rattle.acceptance.specs.Marks.{back-facts}
-use Rattle.store_ops.specs.Logs.{open-kept, leftIn}
+use Rattle.log_ops.specs.Logs.{open-kept, leftIn}
 use Rattle.undo_walk.specs.Going.{Goable}
 
 -- the changes left since mark m, whose number stands at word i

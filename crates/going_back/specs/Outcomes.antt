@@ -15,7 +15,7 @@ use Rattle.areas.specs.Areas.{Areas, areas, withWork, appended}
 use Rattle.areas.specs.Layout.{markCount, markedAt, orderAt}
 use Rattle.areas.specs.Tables.{at}
 use Rattle.calls.specs.Marks.{orderOf, sinceMark, takenBack, wentBack, dropped, backTo}
-use Rattle.store_ops.specs.Logs.{leftIn}
+use Rattle.log_ops.specs.Logs.{leftIn}
 
 -- one mark dropped or kept
 pub dropped-next : (w : List ℕ) (n t a j : ℕ) (x y : List ℕ) → x ≡ dropped w n t a j →

@@ -10,7 +10,7 @@ ghost use Rattle.areas.specs.Answers.{verdict};
 ghost use Rattle.areas.specs.Areas.{areas};
 ghost use Rattle.areas.specs.Layout.{HasUndoing, markCount, markedAt, orderAt};
 ghost use Rattle.calls.specs.Marks.{orderOf, sinceMark, backTests, dropped, backTo};
-ghost use Rattle.store_ops.specs.Logs.{Kept};
+ghost use Rattle.log_ops.specs.Logs.{Kept};
 ghost use Rattle.undo_walk.specs.Going.{Goable};
 use areas::Check;
 use areas::Refusal;
@@ -22,7 +22,7 @@ fn since_mark(log: &[u32], counts: &[u32], work: &[u32], n: usize, t: u32, m: u3
     requires { ⌜ HasUndoing (now work) n (getD (now counts) 0 0) × (t < txnCount) × (m < markCount) ⌝ }
     ensures { λ y. ⌜ (y ≡ length (sinceMark (areas [] [] [] (now (log .entry)) (now (counts .entry)) (now (work .entry))) n t m)) × (y ≤ maxRecords) ⌝ }
 {
-    let left = store_ops::changes_left(log, counts, work, n, t);
+    let left = log_ops::changes_left(log, counts, work, n, t);
     let marked = work[layout::marked_at(n, t as usize, m as usize)];
     if marked < left { left - marked } else { 0 }
 }

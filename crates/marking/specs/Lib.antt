@@ -1,3 +1,3 @@
--- The turns of the scans that start a pass and mark, and a marking step over the lists that it reads.
-pub mod Colours
+-- A marking step: the targets that turn grey, and the tables after it.
+pub mod Targets
 pub mod Steps

@@ -17,7 +17,7 @@ use Rattle.areas.specs.Tables.{isTxn, isActive}
 use Rattle.calls.specs.Marks.{isMark, markTests}
 use Rattle.acceptance.specs.Entered.{Open}
 use Rattle.acceptance.specs.Marks.{mark-facts}
-use Rattle.store_ops.specs.Logs.{Kept, open-kept, open-undoing}
+use Rattle.log_ops.specs.Logs.{Kept, open-kept, open-undoing}
 
 -- the lists that a check does not read
 pub mark-as : (s c r g k w : List ℕ) (t m : ℕ) {x : Check} → x ≡ verdict (markTests (areas [] [] [] [] [] w) t m) → x ≡ verdict (markTests (areas s c r g k w) t m)

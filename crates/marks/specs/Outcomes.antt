@@ -6,7 +6,7 @@ use lib.ListN.{length, set}
 use Rattle.areas.specs.Areas.{areas}
 use Rattle.areas.specs.Layout.{markedAt}
 use Rattle.calls.specs.Marks.{setLast, markSet}
-use Rattle.store_ops.specs.Logs.{leftIn}
+use Rattle.log_ops.specs.Logs.{leftIn}
 
 -- v: the tables with the mark as the last one; i: the word of its number
 pub marked-out : (s c a g k w : List ℕ) (n t m left : ℕ) (v : List ℕ) (i : ℕ) → left ≡ length (leftIn g k w n t) → v ≡ setLast w n t m → i ≡ markedAt n t m →

@@ -12,7 +12,7 @@ ghost use Rattle.areas.specs.Answers.{verdict};
 ghost use Rattle.areas.specs.Areas.{areas};
 ghost use Rattle.areas.specs.Layout.{HasUndoing, activeAt, markCount};
 ghost use Rattle.calls.specs.Marks.{movedUp, setLast, markTests, markSet};
-ghost use Rattle.store_ops.specs.Logs.{Kept};
+ghost use Rattle.log_ops.specs.Logs.{Kept};
 ghost use Rattle.marks.specs.Places.{setBut};
 use areas::Check;
 use areas::Refusal;
@@ -85,7 +85,7 @@ pub fn mark_apply(log: &[u32], counts: &[u32], work: &mut [u32], n: usize, t: u3
     requires { ⌜ HasUndoing (now work) n (getD (now counts) 0 0) × (t < txnCount) × (m < markCount) ⌝ }
     ensures { λ _. ⌜ ((s c r : List ℕ) → areas s c r (now (log .entry)) (now (counts .entry)) (now (work .exit)) ≡ markSet (areas s c r (now (log .entry)) (now (counts .entry)) (now (work .entry))) n t m) ⌝ }
 {
-    let left = store_ops::changes_left(log, counts, work, n, t);
+    let left = log_ops::changes_left(log, counts, work, n, t);
     set_last(work, n, t, m);
     work[layout::marked_at(n, t as usize, m as usize)] = left;
 }

@@ -20,7 +20,7 @@ use Rattle.areas.specs.Tables.{gain}
 use Rattle.calls.specs.Objects.{createTests, setTests, pruned, prunes}
 use Rattle.acceptance.specs.Entered.{Open}
 use Rattle.acceptance.specs.Objects.{create-facts, SetFacts, set-facts, known-facts}
-use Rattle.store_ops.specs.Logs.{Fits, open-fits}
+use Rattle.log_ops.specs.Logs.{Fits, open-fits}
 use Rattle.record_laws.specs.SoundRecords.{create-sound, set-sound}
 use Rattle.object_checks.specs.Tests.{create-looks, set-looks}
 use Rattle.object_changes.specs.Changing.{enteredWrite, enteredSet}

@@ -5,7 +5,7 @@ ghost use Rattle.pages.specs.Geometry.{objectCount};
 ghost use Rattle.records.specs.Records.{txnCount, createOf, recorded};
 ghost use Rattle.records.specs.Effects.{effect};
 ghost use Rattle.areas.specs.Layout.{HasTables};
-ghost use Rattle.store_ops.specs.Logs.{Fits};
+ghost use Rattle.log_ops.specs.Logs.{Fits};
 ghost use Rattle.object_changes.specs.Changing.{enteredNew};
 use areas::layout;
 use pages::SLOTS;
@@ -34,5 +34,5 @@ pub fn create_apply(
     ensures { λ x. ⌜ (x ≡ getD (now (counts .entry)) 0 0 + 1) × (now (received .exit) ≡ effect (now (received .entry)) (createOf t o)) × (now (log .exit) ≡ recorded (now (log .entry)) (getD (now (counts .entry)) 0 0) (createOf t o)) × (now (counts .exit) ≡ set (now (counts .entry)) 0 (getD (now (counts .entry)) 0 0 + 1)) × (now (work .exit) ≡ enteredNew (now (work .entry)) n t o) ⌝ }
 {
     enter_new(work, n, t, o);
-    store_ops::append(received, log, counts, records::create_of(t, o))
+    log_ops::append(received, log, counts, records::create_of(t, o))
 }

@@ -8,7 +8,7 @@ ghost use Rattle.records.specs.Records.{txnCount, setOf, recorded};
 ghost use Rattle.records.specs.Effects.{effect};
 ghost use Rattle.areas.specs.Layout.{HasTables};
 ghost use Rattle.calls.specs.Objects.{pruned};
-ghost use Rattle.store_ops.specs.Logs.{Fits};
+ghost use Rattle.log_ops.specs.Logs.{Fits};
 ghost use Rattle.object_changes.specs.Changing.{enteredWrite, enteredSet};
 use areas::layout;
 use page_ops::change;
@@ -64,5 +64,5 @@ pub fn set_apply(
 {
     let old = change::word_of(received, o, f);
     enter_write(received, work, n, t, o, f, old, v);
-    store_ops::append(received, log, counts, records::set_of(t, o, f, old, v))
+    log_ops::append(received, log, counts, records::set_of(t, o, f, old, v))
 }

@@ -12,7 +12,7 @@ ghost use Rattle.areas.specs.Areas.{areas};
 ghost use Rattle.areas.specs.Layout.{HasTables, HasUndoing};
 ghost use Rattle.areas.specs.Tables.{isTxn};
 ghost use Rattle.calls.specs.Objects.{mayWrite, readTests, createTests, setTests, flushTests};
-ghost use Rattle.store_ops.specs.Logs.{Kept};
+ghost use Rattle.log_ops.specs.Logs.{Kept};
 use areas::Check;
 use areas::Refusal;
 use areas::layout;
@@ -91,7 +91,7 @@ pub fn create_check(
     if change::occupied(received, o) {
         return Check::Refuse(Refusal::Occupied);
     }
-    if !store_ops::room_beyond(log, counts, work, n, store_ops::CHANGE_ROOM) {
+    if !log_ops::room_beyond(log, counts, work, n, log_ops::CHANGE_ROOM) {
         return Check::Refuse(Refusal::LogFull);
     }
     Check::Accept
@@ -125,7 +125,7 @@ pub fn set_check(
     if !(store_ops::knows(work, n, t, o) & may_write(received, work, n, t, o, f, v)) {
         return Check::Refuse(Refusal::Unknown);
     }
-    if !store_ops::room_beyond(log, counts, work, n, store_ops::CHANGE_ROOM) {
+    if !log_ops::room_beyond(log, counts, work, n, log_ops::CHANGE_ROOM) {
         return Check::Refuse(Refusal::LogFull);
     }
     Check::Accept

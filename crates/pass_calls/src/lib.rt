@@ -29,7 +29,7 @@ pub fn held_start_pass(
     match k {
         Check::Refuse(x) => Answer::Refused(x),
         Check::Accept => {
-            marking::begin_pass(work, n);
+            pass_start::begin_pass(work, n);
             Answer::Done(0)
         }
     }

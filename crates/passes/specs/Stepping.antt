@@ -21,7 +21,7 @@ use Rattle.areas.specs.Tables.{at}
 use Rattle.calls.specs.Pass.{passTests, stepTests, swept}
 use Rattle.acceptance.specs.Entered.{Open}
 use Rattle.acceptance.specs.Pass.{stepped}
-use Rattle.store_ops.specs.Logs.{Kept, open-kept, open-undoing}
+use Rattle.log_ops.specs.Logs.{Kept, open-kept, open-undoing}
 use Rattle.pass_record.specs.declared.Pass.{Pass}
 use Rattle.pass_record.specs.Step.{passOf, own-phase, own-page}
 use Rattle.marking.specs.Steps.{markValue, markWork, marked-as}

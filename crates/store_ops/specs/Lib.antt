@@ -1,3 +1,2 @@
--- Laws for the code of the calls: lengths of the working tables, room in the log.
+-- Laws for the code of the calls: the working tables.
 pub mod Tables
-pub mod Logs

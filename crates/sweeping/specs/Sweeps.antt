@@ -25,7 +25,7 @@ use Rattle.areas.specs.Tables.{at}
 use Rattle.calls.specs.Room.{sweepRoom}
 use Rattle.calls.specs.Pass.{locked, unmarked, sweepMap, freedMap, advanced, sweepTests, sweptPage, swept}
 use Rattle.acceptance.specs.Pass.{sweep-facts}
-use Rattle.store_ops.specs.Logs.{roomIn, room-in}
+use Rattle.log_ops.specs.Logs.{roomIn, room-in}
 use Rattle.sweeping.specs.Maps.{map-and, map-of-bits}
 
 -- as the code finds it: i and j, where the words stand

@@ -12,7 +12,7 @@ ghost use Rattle.areas.specs.Answers.{verdict};
 ghost use Rattle.areas.specs.Areas.{areas, out, countWords};
 ghost use Rattle.areas.specs.Layout.{HasTables, HasUndoing};
 ghost use Rattle.calls.specs.Pass as spec;
-ghost use Rattle.store_ops.specs.Logs.{Kept};
+ghost use Rattle.log_ops.specs.Logs.{Kept};
 ghost use Rattle.pass_record.specs.Step.{passOf};
 ghost use Rattle.sweeping.specs.Sweeps.{unmarkedMap, sweptAreas};
 use areas::Answer;
@@ -86,7 +86,7 @@ fn sweep_check(log: &[u32], counts: &[u32], work: &[u32], n: usize, m: u32) -> C
     if m == 0 {
         return Check::Accept;
     }
-    if !store_ops::room_beyond(log, counts, work, n, store_ops::SWEEP_ROOM) {
+    if !log_ops::room_beyond(log, counts, work, n, log_ops::SWEEP_ROOM) {
         return Check::Refuse(Refusal::LogFull);
     }
     Check::Accept
@@ -115,7 +115,7 @@ fn sweep_apply(
         return 0;
     }
     change::release_slots(copies, pass.page as usize, m);
-    store_ops::append(received, log, counts, records::sweep_of(pass.page, m));
+    log_ops::append(received, log, counts, records::sweep_of(pass.page, m));
     bits::slots_set(m)
 }
 

@@ -18,7 +18,7 @@ use Rattle.calls.specs.Room.{changeRoom, roomBeyond, roomWithin}
 use Rattle.calls.specs.Transactions.{allFlushed, beginTests, commitTests}
 use Rattle.acceptance.specs.Entered.{Open}
 use Rattle.acceptance.specs.Transactions.{begin-facts, commit-facts}
-use Rattle.store_ops.specs.Logs.{Fits, open-fits}
+use Rattle.log_ops.specs.Logs.{Fits, open-fits}
 use Rattle.record_laws.specs.SoundRecords.{begin-sound, commit-sound}
 
 -- the lists that a check does not read

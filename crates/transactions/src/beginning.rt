@@ -9,7 +9,7 @@ ghost use Rattle.areas.specs.Areas.{areas, out};
 ghost use Rattle.areas.specs.Layout.{HasTables, HasUndoing, activeAt};
 ghost use Rattle.areas.specs.Tables as tables;
 ghost use Rattle.calls.specs.Transactions.{knowsRoot, beginTests, begun};
-ghost use Rattle.store_ops.specs.Logs.{Kept, Fits, counted};
+ghost use Rattle.log_ops.specs.Logs.{Kept, Fits, counted};
 use areas::Check;
 use areas::Refusal;
 use areas::layout;
@@ -29,7 +29,7 @@ pub fn begin_check(log: &[u32], counts: &[u32], work: &[u32], n: usize, t: u32) 
     if store_ops::has(work, layout::ACTIVE_AT, t) {
         return Check::Refuse(Refusal::WrongState);
     }
-    if store_ops::room_beyond(log, counts, work, n, store_ops::CHANGE_ROOM) {
+    if log_ops::room_beyond(log, counts, work, n, log_ops::CHANGE_ROOM) {
         Check::Accept
     } else {
         Check::Refuse(Refusal::LogFull)
@@ -59,7 +59,7 @@ pub fn begin_apply(
     requires { ⌜ HasTables (now work) n × (0 < n) × (t < 32) ⌝ }
     ensures { λ x. ⌜ ((s c : List ℕ) → out (Done x) s c (now (received .exit)) (now (log .exit)) (now (counts .exit)) (now (work .exit)) ≡ counted (begun (areas s c (now (received .entry)) (now (log .entry)) (now (counts .entry)) (now (work .entry))) n t)) ⌝ }
 {
-    let c = store_ops::append(received, log, counts, records::begin_of(t));
+    let c = log_ops::append(received, log, counts, records::begin_of(t));
     begin_tables(work, n, t);
     c
 }

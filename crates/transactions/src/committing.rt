@@ -8,7 +8,7 @@ ghost use Rattle.areas.specs.Answers.{verdict};
 ghost use Rattle.areas.specs.Areas.{areas, out};
 ghost use Rattle.areas.specs.Layout.{HasTables, HasUndoing};
 ghost use Rattle.calls.specs.Transactions.{allFlushed, commitTests, committed};
-ghost use Rattle.store_ops.specs.Logs.{Fits, counted};
+ghost use Rattle.log_ops.specs.Logs.{Fits, counted};
 use super::ending::end_tables;
 use super::ending::room_within;
 use areas::Check;
@@ -63,7 +63,7 @@ pub fn commit_apply(
     requires { ⌜ HasUndoing (now work) n 0 × (0 < n) × (t < txnCount) ⌝ }
     ensures { λ x. ⌜ ((s c : List ℕ) → out (Done x) s c (now (received .exit)) (now (log .exit)) (now (counts .exit)) (now (work .exit)) ≡ counted (committed (areas s c (now (received .entry)) (now (log .entry)) (now (counts .entry)) (now (work .entry))) n t)) ⌝ }
 {
-    let c = store_ops::append(received, log, counts, records::commit_of(t));
+    let c = log_ops::append(received, log, counts, records::commit_of(t));
     end_tables(work, n, t);
     c
 }

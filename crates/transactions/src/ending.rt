@@ -39,6 +39,6 @@ pub fn end_tables(work: &mut [u32], n: usize, t: u32)
     let end = layout::colour_at(n, 1);
     store_ops::lose(work, layout::ACTIVE_AT, t);
     store_ops::leave_all(work, masks, entries - masks, t);
-    store_ops::end_entries(work, entries, end - entries, t);
+    ended_entries::end_entries(work, entries, end - entries, t);
     end_marks(work, n, t);
 }

@@ -24,7 +24,7 @@ use Rattle.areas.specs.Layout.{HasUndoing, undoingAt}
 use Rattle.areas.specs.Ranges.{recordsIn}
 use Rattle.areas.specs.Tables.{at, undoes}
 use Rattle.calls.specs.Marks.{takenBack, wentBack}
-use Rattle.store_ops.specs.Logs.{Kept, Fits, leftIn}
+use Rattle.log_ops.specs.Logs.{Kept, Fits, leftIn}
 use Rattle.undo_walk.specs.Taking.{backBy, taken-before}
 
 -- record r is a change of t that can be undone, of the pages a, the log g, the counts k and the tables w

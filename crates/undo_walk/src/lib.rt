@@ -8,7 +8,7 @@ ghost use Rattle.records.specs.Records.{maxRecords};
 ghost use Rattle.areas.specs.Areas.{areas};
 ghost use Rattle.areas.specs.Layout.{HasUndoing};
 ghost use Rattle.calls.specs.Marks.{takenBack, wentBack};
-ghost use Rattle.store_ops.specs.Logs.{leftIn};
+ghost use Rattle.log_ops.specs.Logs.{leftIn};
 ghost use Rattle.undo_walk.specs.Going.{Goable};
 use areas::layout;
 use log_turns::Turn;
@@ -53,7 +53,7 @@ pub fn undo_newest(
             Turn::Left => {
                 let c = counts[layout::RECEIVED] as usize;
                 note_back(work, n, t, c, r);
-                let _ = store_ops::append(received, log, counts, record_ops::undoing(r));
+                let _ = log_ops::append(received, log, counts, record_ops::undoing(r));
                 left -= 1;
             }
         }

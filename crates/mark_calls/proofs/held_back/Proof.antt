@@ -5,7 +5,7 @@ use Rattle.areas.specs.Entry.{called-closed, called-refused, called-passed}
 use borrow.Author.Tests.{not-true, not-false, eqb-true}
 use mathlib.Core.Path.{sym, ap, _∙_}
 use Rattle.calls.specs.Marks.{callBack}
-use Rattle.store_ops.specs.Logs.{open-kept, open-undoing}
+use Rattle.log_ops.specs.Logs.{open-kept, open-undoing}
 use Rattle.going_back.specs.Checks.{back-as, back-ready}
 use borrow.Author.Needs.{needs}
 use Rattle.mark_calls.proofs.held_back.Statement.{statement}

@@ -1,4 +1,4 @@
-use Rattle.marking.specs.Colours.{target-none, target-one}
+use Rattle.marking.specs.Targets.{target-none, target-one}
 use borrow.Author.Tests.{not-true, not-false}
 use mathlib.Core.Path.{sym, _∙_}
 use borrow.Author.Needs.{needs}

@@ -1,6 +1,6 @@
 use Prim.Native.Nat.{_-_, _≤_}
 use Rattle.calls.specs.Pass.{targetsGreyed}
-use Rattle.marking.specs.Colours.{targets-free, targets-none, targets-next, targets-end}
+use Rattle.marking.specs.Targets.{targets-free, targets-none, targets-next, targets-end}
 use Rattle.pages.specs.Geometry.{slotWords}
 use borrow.Author.Tests.{not-true, not-false}
 use lib.ListN.{length}

@@ -1,4 +1,4 @@
-use Rattle.marking.specs.Colours.{grey-from}
+use Rattle.grey_search.specs.Greys.{grey-from}
 use Rattle.marking.specs.Steps.{value-scan, value-turn, work-scan, work-turn}
 use Rattle.pass_record.specs.Step.{marked-one, turned}
 use Rattle.store_ops.specs.Tables.{first-below}

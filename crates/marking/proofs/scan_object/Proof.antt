@@ -1,4 +1,4 @@
-use Rattle.marking.specs.Colours.{scanned-by}
+use Rattle.marking.specs.Targets.{scanned-by}
 use borrow.Author.Needs.{needs}
 use Rattle.marking.proofs.scan_object.Statement.{statement}
 use Rattle.marking.proofs.scan_object.Tie as tie

@@ -4,7 +4,7 @@ use borrow.Author.Tests.{not-true, not-false}
 use Rattle.areas.specs.Answers.{all-passed, need-holds, need-fails}
 use Rattle.object_checks.specs.Tests.{object-range}
 use mathlib.Core.Bool.{not}
-use Rattle.store_ops.specs.Logs.{room-in}
+use Rattle.log_ops.specs.Logs.{room-in}
 use Rattle.calls.specs.Objects.{createTests}
 use borrow.Author.Needs.{needs}
 use Rattle.object_checks.proofs.create_check.Statement.{statement}

@@ -3,7 +3,7 @@ use mathlib.Core.Path.{refl, sym, _∙_}
 use borrow.Author.Tests.{not-true, not-false}
 use Rattle.areas.specs.Answers.{all-passed, need-holds, need-fails}
 use Rattle.words.specs.Tests.{and-l, and-cong}
-use Rattle.store_ops.specs.Logs.{room-in}
+use Rattle.log_ops.specs.Logs.{room-in}
 use Rattle.object_checks.specs.Tests.{object-range}
 use Rattle.calls.specs.Objects.{setTests}
 use borrow.Author.Needs.{needs}

@@ -1,5 +1,5 @@
 use Rattle.pass_record.specs.Step.{swept-one}
-use Rattle.store_ops.specs.Logs.{sweep-fits}
+use Rattle.log_ops.specs.Logs.{sweep-fits}
 use Rattle.store_ops.specs.Tables.{first-below}
 use Rattle.sweeping.specs.Maps.{none-set}
 use Rattle.sweeping.specs.Sweeps.{swept-none, swept-some}

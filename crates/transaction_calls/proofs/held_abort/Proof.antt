@@ -2,7 +2,7 @@ use Rattle.aborts.specs.Aborts.{abort-as, abort-ready}
 use Rattle.acceptance.specs.Entered.{formed-sized, open-formed}
 use Rattle.areas.specs.Entry.{called-closed, called-refused, called-passed}
 use Rattle.calls.specs.Transactions.{callAbort}
-use Rattle.store_ops.specs.Logs.{open-kept, open-undoing}
+use Rattle.log_ops.specs.Logs.{open-kept, open-undoing}
 use borrow.Author.Tests.{not-true, not-false, eqb-true}
 use mathlib.Core.Path.{sym, _∙_}
 use native.Mathlib.Omega.{arith}

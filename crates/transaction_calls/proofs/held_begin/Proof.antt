@@ -1,7 +1,7 @@
 use Rattle.acceptance.specs.Entered.{formed-sized, open-formed}
 use Rattle.areas.specs.Entry.{called-closed, called-refused, called-passed}
 use Rattle.calls.specs.Transactions.{callBegin}
-use Rattle.store_ops.specs.Logs.{open-kept, open-undoing}
+use Rattle.log_ops.specs.Logs.{open-kept, open-undoing}
 use Rattle.transactions.specs.Checks.{begin-as, begin-ready}
 use borrow.Author.Tests.{not-true, not-false, eqb-true}
 use mathlib.Core.Path.{sym, _∙_}

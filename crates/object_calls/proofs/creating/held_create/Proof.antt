@@ -4,7 +4,7 @@ use Rattle.areas.specs.Entry.{called-closed, called-refused, called-passed}
 use Rattle.calls.specs.Objects.{callCreate, created}
 use Rattle.object_calls.specs.Changing.{create-ready}
 use Rattle.object_checks.specs.Tests.{create-looks}
-use Rattle.store_ops.specs.Logs.{open-kept, open-undoing, appended-out}
+use Rattle.log_ops.specs.Logs.{open-kept, open-undoing, appended-out}
 use borrow.Author.Tests.{not-true, not-false, eqb-true}
 use mathlib.Core.Path.{sym, _∙_, ap}
 use native.Mathlib.Omega.{arith}

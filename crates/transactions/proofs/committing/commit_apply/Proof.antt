@@ -1,5 +1,5 @@
 use Rattle.calls.specs.Transactions.{committed}
-use Rattle.store_ops.specs.Logs.{appended-out}
+use Rattle.log_ops.specs.Logs.{appended-out}
 use borrow.Author.Needs.{needs}
 use Rattle.transactions.proofs.committing.commit_apply.Statement.{statement}
 use Rattle.transactions.proofs.committing.commit_apply.Tie as tie

@@ -1,0 +1,2 @@
+-- The search for the lowest grey object.
+pub mod Greys

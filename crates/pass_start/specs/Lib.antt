@@ -1,0 +1,2 @@
+-- The colours as a pass starts.
+pub mod Starting
