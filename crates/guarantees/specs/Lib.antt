@@ -10,6 +10,8 @@ pub mod Chains
 pub mod Cuts
 pub mod Ledgers
 pub mod Holders
+pub mod Sameness
 pub mod Restoring
+pub mod Readers
 pub mod Steps
 pub mod Shares
