@@ -121,7 +121,7 @@ module _ (n : ℕ) (s : Areas) (b : Book) where
   open-running (cut-store i) t r = absurd (r (i .waiting .idle t))
   open-running (reopening-store k h i) t r = absurd (r (i .waiting .idle t))
 
-  pub open-held : Inv3 n s b → (l : Granted) → Closed b l → (u p : ℕ) → holds l u p ≡ true → OpenInv n s b
+  open-held : Inv3 n s b → (l : Granted) → Closed b l → (u p : ℕ) → holds l u p ≡ true → OpenInv n s b
   open-held (open-store i) l c u p e = i
   open-held (cut-store i) l c u p e = clash e (c (λ d. awaiting-opened (sym (i .stage) ∙ d)) u p)
   open-held (reopening-store k h i) l c u p e = clash e (c (λ d. storing-opened (sym (i .stage) ∙ d)) u p)

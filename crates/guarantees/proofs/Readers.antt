@@ -6,7 +6,7 @@ use Rattle.words.specs.Tests.{by-bool}
 use Rattle.pages.specs.Geometry.{pageOf}
 use Rattle.areas.specs.Areas.{Areas}
 use Rattle.areas.specs.Entry.{pages}
-use Rattle.calls.specs.Calls.{Call, reopens, perform, step}
+use Rattle.calls.specs.Calls.{Call, reopens, step}
 use Rattle.acceptance.specs.Calls.{refused-keeps}
 use Rattle.book.specs.Books.{Book}
 use Rattle.book.specs.Demand.{Point, accepts, reclaims}
@@ -17,7 +17,7 @@ use Rattle.demand.proofs.Theorem as Demand
 use Rattle.guarantees.specs.Holders.{Granted, grants, holds}
 use Rattle.guarantees.specs.Readers.{Foreign, Leaves, KeptForReaders, AlwaysKeptForReaders}
 use Rattle.guarantees.proofs.Always.{Sure, as-open}
-use Rattle.guarantees.proofs.Beside.{foreign-stays}
+use Rattle.guarantees.proofs.Untouched.{foreign-stays}
 use Rattle.guarantees.proofs.Granted.{Ledgered, keep-ledger, start-ledger, disk-ledger}
 use Rattle.guarantees.proofs.Holders.{runs-so}
 use Rattle.guarantees.proofs.Ledgers.{always-kept}

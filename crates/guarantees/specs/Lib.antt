@@ -13,5 +13,6 @@ pub mod Holders
 pub mod Sameness
 pub mod Restoring
 pub mod Readers
+pub mod Recall
 pub mod Steps
 pub mod Shares

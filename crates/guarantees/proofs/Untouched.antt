@@ -3,12 +3,12 @@
 use Prim.Native.Nat.{ℕ, _*_, _≤_, _<_}
 use native.Mathlib.Omega.{arith}
 use mathlib.Core.Path.{_≡_, refl, sym, ap, _∙_}
-use mathlib.Core.Bool.{Bool, true, false, _||_}
+use mathlib.Core.Bool.{Bool, true, false}
 use mathlib.Core.List.{List}
 use mathlib.Core.Logic.{inl, inr}
 use lib.ListN.{length}
 use lib.Dec.{eqb}
-use borrow.Author.Tests.{eqb-true, eqb-false, ne-eqb}
+use borrow.Author.Tests.{eqb-false, ne-eqb}
 use Rattle.words.specs.Tests.{if, by-bool, clash, or-cases}
 use Rattle.pages.specs.Geometry.{pageOf, pageWords, slotWords}
 use Rattle.pages.specs.Objects.{released}
@@ -22,8 +22,7 @@ use Rattle.calls.specs.Calls.{Call, reopens, perform}
 use Rattle.calls.specs.Calls.Call.{begin, commit, abort, lockRead, lockWrite, read, create, setWord, flush, force, store, empty, pass, step, reopen, restep, mark, back, look}
 use Rattle.calls.specs.Marks.{markSet, sinceMark, wentBack, backTo}
 use Rattle.calls.specs.Objects.{created, wordSet, flushed}
-use Rattle.calls.specs.Pass.{callStep, freedMap, sweepMap, locked, sweptPage}
-use Rattle.calls.specs.Stability.{emptied}
+use Rattle.calls.specs.Pass.{callStep, freedMap, locked, sweptPage}
 use Rattle.calls.specs.Transactions.{begun, committed, changesOf, aborted}
 use Rattle.acceptance.specs.Entered.{Open, opened}
 use Rattle.acceptance.specs.Looks.{look-keeps}
@@ -38,7 +37,7 @@ use Rattle.book.specs.Books.{Book}
 use Rattle.book.specs.Feeding.{goesBack}
 use Rattle.collector.specs.Bits.{true-and}
 use Rattle.collector.specs.Objects as O
-use Rattle.collector.specs.Objects.{Obj, fresh, put}
+use Rattle.collector.specs.Objects.{fresh, put}
 use Rattle.collector.specs.State as M
 use Rattle.collector.specs.Calls as C
 use Rattle.collector.proofs.Safety.{sound}
