@@ -112,7 +112,8 @@ uint64_t kophdaen_set_word(
     uint32_t *counts, size_t counts_words, uint32_t *work, size_t work_words,
     uint32_t t, uint32_t object, uint32_t field, uint32_t word);
 
-/* image, of 129 words, must equal the received page. Value 0. */
+/* image, of 129 words: each slot that is occupied in the received page has its eight words there.
+ * The image's map and its other slots may be anything. The copy takes the received page. Value 0. */
 uint64_t kophdaen_flush(
     const uint32_t *stored, size_t stored_words, uint32_t *copies, size_t copies_words,
     const uint32_t *received, size_t received_words, const uint32_t *log, size_t log_words,
@@ -144,7 +145,8 @@ uint64_t kophdaen_start_pass(
     const uint32_t *received, size_t received_words, const uint32_t *log, size_t log_words,
     const uint32_t *counts, size_t counts_words, uint32_t *work, size_t work_words);
 
-/* One object or one page. Value: the object scanned or the slots freed; 0 for the turn. */
+/* One object or one page; a page that someone has locked for writing is skipped. Value: the object
+ * scanned or the slots freed; 0 for the turn. */
 uint64_t kophdaen_pass_step(
     const uint32_t *stored, size_t stored_words, uint32_t *copies, size_t copies_words,
     uint32_t *received, size_t received_words, uint32_t *log, size_t log_words,

@@ -11,6 +11,7 @@ use borrow.Author.Tests.{ltb-true, leb-true, eqb-true, not-true}
 use Rattle.words.specs.Tests.{if, and-split, or-cases, clash}
 use Rattle.pages.specs.Geometry.{pageWords, pageOf, isObject, isRef, objectCount, slotWords}
 use Rattle.pages.specs.Objects.{occupied, wordOf}
+use Rattle.pages.specs.Images.{agrees}
 use Rattle.records.specs.Records.{txnCount}
 use Rattle.calls.specs.Room.{changeRoom}
 use Rattle.areas.specs.declared.Check.the-variants.{Accept}
@@ -18,7 +19,7 @@ use Rattle.areas.specs.Answers.{verdict, passed}
 use Rattle.areas.specs.Areas.{Areas, done, receivedCount, withWork}
 use Rattle.areas.specs.Layout.{knownAt}
 use Rattle.areas.specs.Tables.{has, isTxn, isActive, canRead, canWrite, knows}
-use Rattle.calls.specs.Objects.{readTests, learned, callRead, createTests, created, callCreate, mayWrite, setTests, wordSet, callSet, agrees, flushTests, flushed, callFlush}
+use Rattle.calls.specs.Objects.{readTests, learned, callRead, createTests, created, callCreate, mayWrite, setTests, wordSet, callSet, flushTests, flushed, callFlush}
 use Rattle.acceptance.specs.Room.{Room, room-facts}
 use Rattle.acceptance.specs.Ran.{Outcome, outcome-done}
 

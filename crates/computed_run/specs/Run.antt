@@ -9,7 +9,7 @@ use lib.ListN.{replicate}
 use lib.Dec.{eqb}
 use Rattle.pages.specs.Objects.{occupied, wordOf}
 use Rattle.areas.specs.Answers.{answerOf, valueOf}
-use Rattle.calls.specs.Calls.{Call, begin, commit, lockRead, lockWrite, read, create, setWord, flush, force, pass, step, reopen, restep, perform}
+use Rattle.calls.specs.Calls.{Call, begin, commit, lockWrite, read, create, setWord, flush, force, pass, step, reopen, restep, perform}
 use Rattle.book.specs.Lines.{Line}
 use Rattle.book.specs.Books.{fullLines}
 use Rattle.book.specs.Pointers.{unbroken}
@@ -71,10 +71,10 @@ cutting =
     ∷ gives 17 (read 1 1 (replicate 8 0)) ∷ asks (knows 1 17) ∷ asks (λ q. not (knows 1 2 q))
     ∷ gives 8 (setWord 1 1 0 0) ∷ gives 0 (flush 1 0 (image 3 0 0)) ∷ gives 9 (commit 1) ∷ asks (λ q. not (knows 1 17 q)) ∷ []
 
--- a pass frees 2; a reader keeps page 1, so that 17 stays and still names 2
+-- a pass frees 2; page 1 is locked for writing, so that 17 stays and still names 2
 abbrev pub freeing : List Scene
 freeing =
-    gives 10 (begin 2) ∷ gives 0 (lockRead 2 1) ∷ asks (names 2 0 0)
+    gives 10 (begin 2) ∷ gives 0 (lockWrite 2 1) ∷ asks (names 2 0 0)
     ∷ gives 0 pass ∷ gives 1 step ∷ gives 0 step ∷ gives 1 step ∷ gives 0 step
     ∷ asks (λ q. not (names 2 0 0 q)) ∷ asks (names 17 0 2) ∷ []
 

@@ -45,7 +45,7 @@ use Rattle.demand.proofs.Unlogged.{notes-kept, open-unlocked, open-note
 use Rattle.demand.proofs.Notes.{notes-quiet}
 
 -- the book learns what the tables know
-open-learns : (n : ℕ) (s : Areas) (b : Book) (t : ℕ) (f : ℕ → Bool) → OpenInv n s b
+pub open-learns : (n : ℕ) (s : Areas) (b : Book) (t : ℕ) (f : ℕ → Bool) → OpenInv n s b
     → ((x : ℕ) → f x ≡ true → tablesOf (s .work) n .kn t x ≡ true) → OpenInv n s (learns b t f)
 unfolding runs
 open-learns n s b t f i h = open-noted n s b i (s .stored) (s .counts) (b .stable) (learns b t f .known) (b .marked) refl (learn-inv b (i .book) t f)

@@ -37,7 +37,7 @@ use Rattle.demand.proofs.Restep.{restep-kept}
 use Rattle.demand.proofs.Start.{start-inv}
 
 -- the store and the book after an accepted call
-abbrev Kept : ℕ → Areas → Book → Call → Type 0
+abbrev pub Kept : ℕ → Areas → Book → Call → Type 0
 Kept n s b c = Inv3 n (perform s c .after) (fed n b c (s .received) (perform s c .after .received))
 
 -- a call that needs the reopening finished is accepted by an open store only
@@ -52,7 +52,7 @@ unfolding perform fed
 looked-keeps n s b q i = rw (look-keeps s q) i
 
 -- every accepted call keeps the invariant
-accepted-keeps : (n : ℕ) → 1 ≤ n → (s : Areas) (b : Book) (c : Call) → Inv3 n s b → accepted (perform s c .answer) ≡ true → Kept n s b c
+pub accepted-keeps : (n : ℕ) → 1 ≤ n → (s : Areas) (b : Book) (c : Call) → Inv3 n s b → accepted (perform s c .answer) ≡ true → Kept n s b c
 unfolding perform
 accepted-keeps n some s b (begin t) i a = when-open n s b (begin t) refl (λ o. open-store (open-begin n some s b o t a)) i a
 accepted-keeps n some s b (commit t) i a = when-open n s b (commit t) refl (λ o. open-store (open-commit n some s b o t a)) i a
@@ -86,7 +86,7 @@ keep n some q (call c) i = by-bool (accepts q c)
 keep n some q power i = cut-kept n some (q .store) (q .book) i
 
 -- the invariant gives the claim at a point
-holds : (n : ℕ) → 1 ≤ n → (s : Areas) (b : Book) → Inv3 n s b → Holds n (record { store = s; book = b })
+pub holds : (n : ℕ) → 1 ≤ n → (s : Areas) (b : Book) → Inv3 n s b → Holds n (record { store = s; book = b })
 holds n some s b (open-store i) = open-holds n some s b i
 holds n some s b (cut-store i) = await-holds n s b i
 holds n some s b (reopening-store k l i) = storing-holds n some s b k i

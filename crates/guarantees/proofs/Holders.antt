@@ -45,7 +45,7 @@ module _ (n : ℕ) (w : List ℕ) (l : Granted) (a : Agrees n w l) (p : ℕ) (be
   writes-bit : (u : ℕ) → u < txnCount → l .writes u p ≡ bit (at w (writersAt n p)) u
   writes-bit u k = a .writers u p ∙ page-bit w n (writersAt n) u p k below
 
-  holds-bit : (u : ℕ) → u < txnCount → holds l u p ≡ canRead w n u p
+  pub holds-bit : (u : ℕ) → u < txnCount → holds l u p ≡ canRead w n u p
   holds-bit u k = a .holders u p ∙ rw (page-bit w n (readersAt n) u p k below, page-bit w n (writersAt n) u p k below)
 
   told-by : (t h : ℕ) → Lowest (λ u. canRead w n u p) t h → Lowest (λ u. holds l u p) t h
@@ -66,11 +66,11 @@ answers c h s a e1 e2 e3 e4 x e5 = rw (e1, e2, e3, e4, e5) (answered x h s a)
 
 -- an open store, by the ledger and the book
 module _ (n : ℕ) (s : Areas) (b : Book) (i : OpenInv n s b) (z : Fine n s b) (l : Granted) (a : Agrees n (s .work) l) where
-  active-in : (t : ℕ) → (b .running t ≡ 0 → ⊥) → t < txnCount
+  pub active-in : (t : ℕ) → (b .running t ≡ 0 → ⊥) → t < txnCount
   unfolding txns
   active-in t r = i .collector .exclusive .active t (i .runs t r)
 
-  active-bit : (t : ℕ) → (b .running t ≡ 0 → ⊥) → isActive (s .work) t ≡ true
+  pub active-bit : (t : ℕ) → (b .running t ≡ 0 → ⊥) → isActive (s .work) t ≡ true
   active-bit t r = sym (act-is s n (machine n s b) (machine-shows n s b) t (active-in t r)) ∙ i .runs t r
 
   open-word : Working (s .work) n (records s)
@@ -101,7 +101,7 @@ module _ (n : ℕ) (s : Areas) (b : Book) (i : OpenInv n s b) (z : Fine n s b) (
       (free-both (at (s .work) (readersAt n p)) (at (s .work) (writersAt n p)) t (open-word .readers p h) (open-word .writers p h) ∙ as-other _ _ t (holds-bit n (s .work) l a p h)))
 
   -- who has a page runs; a writer has it alone
-  runs-so : (u p : ℕ) → holds l u p ≡ true → b .running u ≡ 0 → ⊥
+  pub runs-so : (u p : ℕ) → holds l u p ≡ true → b .running u ≡ 0 → ⊥
   runs-so u p e = elim (or-cases (locksOf (s .work) n .rd u p) (locksOf (s .work) n .wr u p) (sym (a .holders u p) ∙ e)) [
     | inl d ↦ i .active u (i .collector .exclusive .reader u p d)
     | inr d ↦ i .active u (i .collector .exclusive .writer u p d .0)

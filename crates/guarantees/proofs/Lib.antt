@@ -30,3 +30,6 @@ pub mod MarkSteps
 pub mod MarkMoves
 pub mod MarkCalls
 pub mod Restoring
+pub mod Untouched
+pub mod Readers
+pub mod Recall

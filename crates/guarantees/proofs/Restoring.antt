@@ -29,19 +29,23 @@ use Rattle.demand.proofs.State.{OpenInv}
 use Rattle.demand.proofs.Finished.{accepted-open}
 use Rattle.demand.proofs.Change.{full-shown}
 use Rattle.demand.proofs.Marks.{open-back}
-use Rattle.guarantees.specs.Restoring.{Noted, notebook, SamePage, Restores, AlwaysRestores}
+use Rattle.guarantees.specs.Restoring.{Noted, notebook, Restores, AlwaysRestores}
+use Rattle.guarantees.specs.Sameness.{SameObject, SamePage}
 use Rattle.guarantees.proofs.Always.{Sure, as-open}
 use Rattle.guarantees.proofs.Granted.{accepted-agrees}
 use Rattle.guarantees.proofs.Ledgers.{always-kept}
 use Rattle.guarantees.proofs.MarkNotes.{oldest, AtMark}
 use Rattle.guarantees.proofs.MarkCalls.{Restorable, keep-restorable, start-restorable, disk-restorable}
 
+pub same-object : (x : ℕ) → 1 ≤ x → (a b : List ℕ) → view a x ≡ view b x → SameObject x a b
+same-object x low a b e = record {
+  slot = sym (view-occ a x low) ∙ ap (λ (o : Obj). o .occ) e ∙ view-occ b x low;
+  words = λ f k. sym (view-word a x low f k) ∙ ap (λ (o : Obj). o .word f) e ∙ view-word b x low f k;
+}
+
 -- the same objects of a page
 same-page : (p : ℕ) (a b : List ℕ) → ((x : ℕ) → pageOf x ≡ p → view a x ≡ view b x) → SamePage p a b
-same-page p a b h = record {
-  objects = λ x low e. sym (view-occ a x low) ∙ ap (λ (o : Obj). o .occ) (h x e) ∙ view-occ b x low;
-  words = λ x f low e k. sym (view-word a x low f k) ∙ ap (λ (o : Obj). o .word f) (h x e) ∙ view-word b x low f k;
-}
+same-page p a b h x low e = same-object x low a b (h x e)
 
 -- t goes back to mark m
 module _ (n : ℕ) (some : 1 ≤ n) (q : Point) (l : Noted) (u : Sure n q) (j : Restorable n q l) (t m : ℕ) (a : accepts q (back t m) ≡ true) where

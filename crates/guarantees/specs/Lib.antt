@@ -10,6 +10,9 @@ pub mod Chains
 pub mod Cuts
 pub mod Ledgers
 pub mod Holders
+pub mod Sameness
 pub mod Restoring
+pub mod Readers
+pub mod Recall
 pub mod Steps
 pub mod Shares

@@ -1,11 +1,9 @@
 -- Document 02, L3, what going back restores: each page that t had locked for writing at the mark is received as it was then, each locked
 -- since as committed. Over lists, by a ledger of the locks that were granted and of what each mark found. Assumes nothing.
-use Prim.Native.Nat.{ℕ, _≤_, _<_}
+use Prim.Native.Nat.{ℕ, _<_}
 use mathlib.Core.Path.{_≡_}
 use mathlib.Core.Bool.{Bool, true, false}
 use mathlib.Core.List.{List, []}
-use Rattle.pages.specs.Geometry.{pageOf, slotWords}
-use Rattle.pages.specs.Objects.{occupied, wordOf}
 use Rattle.areas.specs.Entry.{pages}
 use Rattle.calls.specs.Calls.{Call, perform, begin, commit, abort, lockRead, lockWrite, read, create, setWord, flush, force, store, empty, pass, step, reopen, restep, mark, back, look}
 use Rattle.book.specs.Books.{committedPages}
@@ -13,6 +11,7 @@ use Rattle.book.specs.Feeding.{put}
 use Rattle.book.specs.Demand.{Point, accepts}
 use Rattle.guarantees.specs.Ledgers.{Ledger, AlwaysKept}
 use Rattle.guarantees.specs.Holders.{Granted, nothing, granting}
+use Rattle.guarantees.specs.Sameness.{SamePage}
 
 -- the locks that were granted; by transaction and mark, what t found where it last set the mark: the received pages, and the pages that it
 -- had been let write
@@ -57,11 +56,6 @@ noting l (look q) r = locking l (look q)
 -- a cut leaves no lock and no mark
 abbrev pub notebook : Ledger Noted
 notebook = record { first = unnoted; enters = noting; drops = λ l. unnoted }
-
--- page p of two areas: the same objects are there, with the same words
-pub record SamePage (p : ℕ) (a b : List ℕ) : Type 0 where
-  pub objects : (x : ℕ) → 1 ≤ x → pageOf x ≡ p → occupied a x ≡ occupied b x
-  pub words : (x f : ℕ) → 1 ≤ x → pageOf x ≡ p → f < slotWords → wordOf a x f ≡ wordOf b x f
 
 -- the received pages after t goes back to mark m
 abbrev pub wentBackTo : Point → ℕ → ℕ → List ℕ

@@ -2,14 +2,14 @@
 use Prim.Native.Nat.{ℕ, zero, suc, _+_, _*_, _-_}
 use native.Mathlib.Omega.{arith}
 use mathlib.Core.Path.{_≡_, refl}
-use mathlib.Core.Bool.{true, false, not}
+use mathlib.Core.Bool.{true, false}
 use mathlib.Core.List.{List}
 use lib.Dec.{ltb, leb, eqb}
 use borrow.Author.Tests.{leb-true, leb-false, eqb-true, eq-eqb, le-leb, not-false}
-use Rattle.words.specs.Tests.{by-bool, clash, lowest, lowest-passes, lowest-none, or-false-r}
+use Rattle.words.specs.Tests.{by-bool, clash, lowest, lowest-passes, lowest-none}
 use Rattle.words.specs.Bits.{bit-none}
 use Rattle.pages.specs.Geometry.{isObject, objectCount}
-use Rattle.areas.specs.Layout.{readersAt, writersAt, colourAt}
+use Rattle.areas.specs.Layout.{writersAt, colourAt}
 use Rattle.areas.specs.Tables.{at, isGrey}
 use Rattle.calls.specs.Pass.{lowestGrey, locked}
 use Rattle.collector.specs.Bits.{and-false}
@@ -49,9 +49,9 @@ module _ (w : List ℕ) (n : ℕ) where
       clash (eq-eqb (at w (colourAt n x)) 1 (grey-one (at w (colourAt n x)) (rw o at c))) (rw e at z))
       (λ o. not-grey (rw o at c))
 
-  -- a page without a lock has no writer
+  -- a page that is not skipped has no writer
   pub unlocked-unwritten : (p : ℕ) → locked w n p ≡ false → (t : ℕ) → pageBit w n (writersAt n) t p ≡ false
   unfolding pageBit
   unlocked-unwritten p h t =
-      let z : at w (writersAt n p) ≡ 0 = eqb-true (at w (writersAt n p)) 0 (not-false (eqb (at w (writersAt n p)) 0) (or-false-r (not (eqb (at w (readersAt n p)) 0)) (not (eqb (at w (writersAt n p)) 0)) h)) in
+      let z : at w (writersAt n p) ≡ 0 = eqb-true (at w (writersAt n p)) 0 (not-false (eqb (at w (writersAt n p)) 0) h) in
       rw (z, bit-none t, and-false (ltb p n), and-false (ltb t txnCount)) refl

@@ -11,7 +11,7 @@ use areas::Check;
 use areas::Refusal;
 use pages::PAGE_WORDS;
 
-// Flushes a page under the write lock: the image must equal the received page, and the page copy becomes it. A store that is known to be well formed.
+// Flushes a page under the write lock: the image must agree with the received page, which the page copy becomes. A store that is known to be well formed.
 pub fn held_flush(
     stored: &[u32],
     copies: &mut [u32],
@@ -40,7 +40,7 @@ pub fn held_flush(
     }
 }
 
-// Flushes a page under the write lock: the image must equal the received page, and the page copy becomes it.
+// Flushes a page under the write lock: the image must agree with the received page, which the page copy becomes.
 pub fn flush(
     stored: &[u32],
     copies: &mut [u32],

@@ -17,7 +17,7 @@ use areas::Check;
 use areas::Refusal;
 use areas::layout;
 use page_ops::change;
-use page_ops::copy;
+use page_rows::images;
 use pages::SLOT_WORDS;
 use pages::SLOTS;
 use records::TXNS;
@@ -145,7 +145,7 @@ pub fn flush_check(received: &[u32], work: &[u32], image: &[u32], n: usize, t: u
     if !store_ops::can_write(work, n, t, p as usize) {
         return Check::Refuse(Refusal::NotLocked);
     }
-    if !copy::page_agrees(image, received, p as usize) {
+    if !images::page_agrees(image, received, p as usize) {
         return Check::Refuse(Refusal::Differs);
     }
     Check::Accept

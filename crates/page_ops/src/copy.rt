@@ -4,7 +4,6 @@ ghost use lib.ListN.{length};
 ghost use Rattle.words.specs.Spans.{same};
 ghost use Rattle.pages.specs.Geometry.{pageAt, pageWords};
 ghost use Rattle.pages.specs.Objects.{copiedPage};
-ghost use Rattle.page_ops.specs.Agreement.{agrees};
 
 // Page p of one area, written into another.
 pub fn copy_page(from: &[u32], to: &mut [u32], p: usize)
@@ -15,19 +14,6 @@ pub fn copy_page(from: &[u32], to: &mut [u32], p: usize)
     for i in 0..pages::PAGE_WORDS {
         to[b + i] = from[b + i];
     }
-}
-
-// Whether an image of one page equals page p of an area.
-pub fn page_agrees(image: &[u32], a: &[u32], p: usize) -> bool
-    requires { ⌜ (pageWords ≤ length (now image)) × (pageAt p + pageWords ≤ length (now a)) ⌝ }
-    ensures { λ r. ⌜ r ≡ agrees (now (image .entry)) (now (a .entry)) p ⌝ }
-{
-    let b = pages::PAGE_WORDS * p;
-    let mut ok = true;
-    for i in 0..pages::PAGE_WORDS {
-        ok = ok & (image[i] == a[b + i]);
-    }
-    ok
 }
 
 // Whether an area is the beginning of another, which is no shorter.

@@ -1,2 +1,3 @@
-// The rows of a page, by value.
+// The rows of a page: by value, and beside an image's.
+pub mod images;
 pub mod rows;

@@ -20,7 +20,7 @@ use Rattle.areas.specs.declared.Refusal.the-variants.{LogFull}
 use Rattle.areas.specs.declared.Check.the-variants.{Accept, Refuse}
 use Rattle.areas.specs.Answers.{need, verdict, need-holds, need-fails, all-passed}
 use Rattle.areas.specs.Areas.{Areas, areas, done, refused, checked-pass, checked-refuse, withWork, appended}
-use Rattle.areas.specs.Layout.{passPageAt, readersAt, writersAt, createdAt, colourAt}
+use Rattle.areas.specs.Layout.{passPageAt, writersAt, createdAt, colourAt}
 use Rattle.areas.specs.Tables.{at}
 use Rattle.calls.specs.Room.{sweepRoom}
 use Rattle.calls.specs.Pass.{locked, unmarked, sweepMap, freedMap, advanced, sweepTests, sweptPage, swept}
@@ -32,8 +32,8 @@ use Rattle.sweeping.specs.Maps.{map-and, map-of-bits}
 pub unmarked-at : (w : List ℕ) (n p s o i j : ℕ) → o ≡ objectAt p s → i ≡ colourAt n o → j ≡ createdAt n o → eqb (at w i) 0 && eqb (at w j) 0 ≡ unmarked w n p s
 unmarked-at w n p s o i j e ei ej = rw (ei, ej, e)
 
-pub locked-at : (w : List ℕ) (n p i j : ℕ) → i ≡ readersAt n p → j ≡ writersAt n p → not (eqb (at w i) 0) || not (eqb (at w j) 0) ≡ locked w n p
-locked-at w n p i j ei ej = rw (ei, ej)
+pub locked-at : (w : List ℕ) (n p i : ℕ) → i ≡ writersAt n p → not (eqb (at w i) 0) ≡ locked w n p
+locked-at w n p i e = rw e
 
 unfoldable pub unmarkedMap : List ℕ → ℕ → ℕ → ℕ
 unmarkedMap w n p = mapOf (unmarked w n p) slotCount

@@ -56,17 +56,15 @@ fn unmarked_map(work: &[u32], n: usize, p: usize) -> u32
     m
 }
 
-// Whether anyone has a lock on page p.
+// Whether anyone has a lock for writing on page p.
 fn locked(work: &[u32], n: usize, p: usize) -> bool
     requires { ⌜ HasTables (now work) n × (p < n) ⌝ }
     ensures { λ r. ⌜ r ≡ spec.locked (now (work .entry)) n p ⌝ }
 {
-    let readers = work[layout::readers_at(n, p)];
-    let writers = work[layout::writers_at(n, p)];
-    (readers != 0) | (writers != 0)
+    work[layout::writers_at(n, p)] != 0
 }
 
-// The slots that the step frees: none of a locked page, else those occupied in the copies and unmarked.
+// The slots that the step frees: none of a page that is being written, else those occupied in the copies and unmarked.
 fn freed_map(copies: &[u32], work: &[u32], n: usize, p: usize) -> u32
     requires { ⌜ HasTables (now work) n × (p < n) × (pageAt p < length (now copies)) × (mapAt (now copies) p ≤ mapTop) ⌝ }
     ensures { λ r. ⌜ r ≡ spec.freedMap (areas [] (now (copies .entry)) [] [] [] (now (work .entry))) n p ⌝ }

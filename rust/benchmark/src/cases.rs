@@ -2,7 +2,7 @@
 //! refused with 1.
 
 use calls::{Call, Server};
-use kophdaen::Store;
+use kophdaen::{Store, OBJECT_WORDS};
 use model::layout::*;
 
 use crate::random::Random;
@@ -207,14 +207,16 @@ fn objects(base: &Base, list: &mut Vec<Case>) {
     add(list, "set_word (old begin)", 0, &base.behind, set(child));
 }
 
-/// Refused where the image's last word differs.
+/// Refused where the last word of the page's last object differs.
 fn flushing(base: &Base, list: &mut Vec<Case>) {
     let first = list.len();
+    let slot = (0..SLOTS).rev().find(|slot| base.acting.received[0] & 1 << slot != 0).expect("an object");
+    let last = word_at(object_at(0, slot), OBJECT_WORDS - 1);
     let flush = Call::Flush(ACTOR, 0);
     add_three(list, "flush", (&base.acting, flush), 9, (&base.acting, flush));
     for case in &mut list[first..] {
         case.image = page_image(&base.acting, 0);
-        case.image[PAGE_WORDS - 1] ^= u32::from(case.number == 9);
+        case.image[last] ^= u32::from(case.number == 9);
     }
 }
 

@@ -68,9 +68,9 @@ const CALLS: [(&str, &str, &str, &str); 21] = [
     ),
     (
         "flush",
-        "4 words; the image's 129; the received page's 129, twice",
+        "4 words; the image's 128; the received page's 129, twice",
         "the copy's 129; 1 word",
-        "2, 4, 5; 9: the image is the received page. The copy becomes it",
+        "2, 4, 5; 9: the image has what the received page's occupied slots have. The copy becomes the received page",
     ),
     ("force", "3 words", "1 word", "2; 4: a record is not stable"),
     (

@@ -177,8 +177,8 @@ impl Held {
         lend!(self.store, kophdaen_held_set_word, t, object, field, word)
     }
 
-    /// Flushes a page's image, of 129 words. One of another length goes to the lent call, which
-    /// refuses it with 1.
+    /// Flushes a page's image, of 129 words, as the lent call does. One of another length goes to the
+    /// lent call, which refuses it with 1.
     pub fn flush(&mut self, image: &[u32], t: u32, page: u32) -> Answer {
         if image.len() != PAGE_WORDS {
             return self.store.flush(image, t, page);

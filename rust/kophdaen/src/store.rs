@@ -77,6 +77,8 @@ impl Store {
         lend!(self, kophdaen_set_word, t, object, field, word)
     }
 
+    /// Flushes a page's image, of 129 words, which must have the received words of each slot that is
+    /// occupied in the received page; its map and its other slots may be anything.
     pub fn flush(&mut self, image: &[u32], t: u32, page: u32) -> Answer {
         lend!(self, kophdaen_flush, image.as_ptr(), image.len(), t, page)
     }

@@ -1,4 +1,4 @@
-//! Document 01's page server and collector, and document 02's L1 to L5, over the same lent words as
+//! Document 01's page server and collector, and document 02's L1 to L6, over the same lent words as
 //! the proved library.
 //!
 //! Written from documents 01 and 02, docs/LAYOUT.md and docs/DECISIONS.md, not from the library's source.
@@ -11,6 +11,7 @@ pub mod faults;
 mod holder;
 pub mod layout;
 mod marks;
+mod readers;
 pub mod recover;
 mod share;
 pub mod sound;
@@ -477,33 +478,25 @@ impl Model {
         }
     }
 
-    /// "Flush a page under the write lock: the image must equal the received page; the page copy
-    /// becomes it."
+    /// "Flush a page under the write lock"; "the flush compares only the slots occupied in the
+    /// received page .. and the copy takes the received page" (document 02, L6).
     pub fn flush(&mut self, image: &[u32], t: u32, page: u32) -> Answer {
-        let long = image.len() > PAGE_WORDS && !self.has(Fault::LongImageTaken);
         if self.has(Fault::ImageLengthAfterTwo) {
             self.ready()?;
         }
-        refuse(1, image.len() < PAGE_WORDS || long)?;
+        self.image_length(image.len(), page)?;
         self.ready()?;
         self.transaction(t)?;
         self.page(page)?;
         self.must_be_active(t)?;
         let page = page as usize;
-        self.write_lock(t, page)?;
-        let from = match self.fault {
-            Fault::FlushIgnoresMap => 1,
-            _ => 0,
-        };
-        let to = match self.fault {
-            Fault::FlushIgnoresLastWord => PAGE_WORDS - 1,
-            _ => PAGE_WORDS,
-        };
-        refuse(9, image[from..to] != self.areas.received[page_range(page)][from..to])?;
-
-        if !self.has(Fault::FlushLeavesCopy) {
-            self.areas.copies[page_range(page)].copy_from_slice(&image[..PAGE_WORDS]);
+        if self.has(Fault::NineBeforeFive) {
+            self.image_agrees(image, page)?;
         }
+        self.write_lock(t, page)?;
+        self.image_agrees(image, page)?;
+
+        self.take_copy(image, page);
         let flushed = if self.has(Fault::FlushedForAll) { u32::MAX } else { bit(t) };
         *self.areas.page_table(Table::Unflushed, page) &= !flushed;
         Ok(0)
@@ -643,17 +636,14 @@ impl Model {
         *self.areas.object_table(Table::Colours, object) = BLACK;
     }
 
-    /// "Sweeping, page 0 upward: a page with any lock is skipped; otherwise its occupied, white
-    /// objects without a COT entry are freed in copy and received page, with one sweep record if
-    /// there are any; its answer counts the slots set in the map. After page P - 1 the pass is
-    /// over."
+    /// "Sweeping, page 0 upward": "a page is skipped only if someone has it write-locked" (document
+    /// 02, L6); "otherwise its occupied, white objects without a COT entry are freed in copy and
+    /// received page, with one sweep record if there are any; its answer counts the slots set in the
+    /// map. After page P - 1 the pass is over."
     fn sweeping_step(&mut self) -> Answer {
         let page = self.areas.work[PASS_PAGE] as usize;
-        let mut locks = self.areas.get(Table::Writers, page);
-        if !self.has(Fault::SweepsUnderReadLock) {
-            locks |= self.areas.get(Table::Readers, page);
-        }
-        let map = if locks == 0 { self.garbage(page) } else { 0 };
+        let skipped = self.skipped(page);
+        let map = if skipped { 0 } else { self.garbage(page) };
         if map != 0 || self.has(Fault::SweepAlwaysNeedsRoom) {
             if self.has(Fault::RefusedSweepIsStep) && self.room(1).is_err() {
                 self.count_step();
@@ -661,19 +651,11 @@ impl Model {
             self.room(1)?;
         }
         if map != 0 {
-            let record = [7, 0, page as u32, 0, 0, map];
-            if self.has(Fault::SweepsWithoutRecord) {
-                take_effect(&mut self.areas.received, record);
-            } else {
-                self.receive(record);
-            }
-            if !self.has(Fault::SweepLeavesCopies) {
-                free_map(&mut self.areas.copies, page, map);
-            }
+            self.free_garbage(page, map);
         }
         let counts = match self.fault {
-            Fault::SkippedPageIsNoStep => locks == 0,
-            Fault::NothingFreedIsNoStep => map != 0 || locks != 0,
+            Fault::SkippedPageIsNoStep => !skipped,
+            Fault::NothingFreedIsNoStep => map != 0 || skipped,
             _ => true,
         };
         if counts {
@@ -682,6 +664,28 @@ impl Model {
         self.leave_page(page);
         let freed = map.count_ones();
         Ok(if self.has(Fault::FreedCountUnlikeMap) && freed > 1 { freed - 1 } else { freed })
+    }
+
+    /// "freed in copy and received page, with one sweep record"
+    fn free_garbage(&mut self, page: usize, map: u32) {
+        let record = [7, 0, page as u32, 0, 0, map];
+        let read = self.areas.get(Table::Readers, page) != 0;
+        if self.has(Fault::SweepsWithoutRecord) || (read && self.has(Fault::ReadPageSweptWithoutRecord)) {
+            take_effect(&mut self.areas.received, record);
+        } else if read && self.has(Fault::ReadPageSweptInCopyAlone) {
+            self.append(record);
+        } else {
+            self.receive(record);
+        }
+        let copy_stays = match self.fault {
+            Fault::SweepLeavesCopies => true,
+            Fault::ReadPageSweptInReceivedAlone => read,
+            _ => false,
+        };
+        if !copy_stays {
+            free_map(&mut self.areas.copies, page, map);
+        }
+        self.disturb_readers(page, map);
     }
 
     /// To the next page, or out of the pass.
@@ -720,6 +724,7 @@ impl Model {
             let shown = if self.has(Fault::SweepByReceived) { &self.areas.received } else { &self.areas.copies };
             occupied(shown, object)
                 && !(self.has(Fault::WhiteRootSpared) && object == ROOT)
+                && !(self.has(Fault::KnownAreSpared) && self.areas.by_object(Table::Known, object) != 0)
                 && self.areas.by_object(Table::Colours, object) == WHITE
                 && created == 0
         };

@@ -6,6 +6,8 @@ use calls::Call;
 use kophdaen::OBJECT_WORDS;
 use model::layout::*;
 
+use crate::images;
+
 /// The image that a flush sends, told from the state that the flush meets.
 #[derive(Clone, Debug, PartialEq)]
 pub enum Image {
@@ -15,6 +17,20 @@ pub enum Image {
     Copy,
     /// The received page with one word changed.
     Changed(usize, u32),
+    /// The received page, but for what does not count: any map, any words at its free slots, by the seed.
+    Loose(u64),
+    /// One word of an occupied slot with these bits turned; the rest is the received page, or with a seed as loose.
+    /// The slot is told by its number among the occupied ones; a higher number is the last of them.
+    Wrong {
+        slot: usize,
+        word: usize,
+        bits: u32,
+        loose: Option<u64>,
+    },
+    /// A page as it once stood: what a tablet has read.
+    Seen(Vec<u32>),
+    /// .. with the received words at the slots that are occupied now, in its map too: what it sends back.
+    Stale(Vec<u32>),
     /// The received page cut or lengthened with zeros to so many words.
     Long(usize),
     Zeros,
@@ -29,14 +45,24 @@ impl Image {
             None => vec![0; PAGE_WORDS],
         };
         let mut words = page_of(received);
-        match *self {
+        match self {
             Image::Received => {}
             Image::Copy => words = page_of(copies),
-            Image::Changed(at, word) => words[at] = word,
-            Image::Long(len) => words.resize(len, 0),
+            Image::Changed(at, word) => words[*at] = *word,
+            Image::Loose(seed) => images::loosen(&mut words, *seed),
+            Image::Wrong { slot, word, bits, loose } => {
+                let slots = images::occupied_slots(words[0]);
+                loose.iter().for_each(|&seed| images::loosen(&mut words, seed));
+                if let Some(slot) = slots.get(*slot).or(slots.last()) {
+                    words[1 + OBJECT_WORDS * slot + word] ^= bits;
+                }
+            }
+            Image::Seen(seen) => words.clone_from(seen),
+            Image::Stale(seen) => words = images::sent_back(seen, &words),
+            Image::Long(len) => words.resize(*len, 0),
             Image::Zeros => words.fill(0),
             Image::Noise(seed) => {
-                let mut random = crate::random::Random::new(seed);
+                let mut random = crate::random::Random::new(*seed);
                 words.fill_with(|| random.word());
             }
         }

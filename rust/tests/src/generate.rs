@@ -7,8 +7,10 @@ use model::layout::*;
 
 use crate::actions::*;
 use crate::crowd;
+use crate::images::{self, Seen};
 use crate::random::Random;
 use crate::rubbish::odd_word;
+use crate::tablets;
 
 /// How often, in a thousand actions, a list leaves the straight path.
 #[derive(Clone, Copy, Debug)]
@@ -35,6 +37,8 @@ pub enum Habit {
     Trying,
     /// Take every slot and link it, so that passes take as many steps as they may.
     Crowding,
+    /// Keep pages locked for reading and read on, then lock them for writing and flush them.
+    Reading,
 }
 
 pub struct Generator {
@@ -47,6 +51,8 @@ pub struct Generator {
     burst: (Call, usize),
     /// What is still to be asked of areas just filled.
     asking: Vec<Call>,
+    /// Pages as they stood before.
+    seen: Seen,
     begun: bool,
 }
 
@@ -57,7 +63,8 @@ impl Generator {
             hot.push(random.below(pages) as u32);
         }
         let burst = (Call::Force, 0);
-        Generator { random, style, hot, restore: None, burst, asking: Vec::new(), begun: false }
+        let (asking, seen) = (Vec::new(), Seen::default());
+        Generator { random, style, hot, restore: None, burst, asking, seen, begun: false }
     }
 
     /// From a store that calls have led to: no first action that makes one.
@@ -66,6 +73,12 @@ impl Generator {
     }
 
     pub fn next(&mut self, a: &Areas) -> Action {
+        let action = self.action(a);
+        self.seen.note(&action, a);
+        action
+    }
+
+    fn action(&mut self, a: &Areas) -> Action {
         if !self.begun {
             self.begun = true;
             return match self.style.filling {
@@ -236,7 +249,7 @@ impl Generator {
             11 | 12 => return Request::read(t, object, if r.percent(80) { OBJECT_WORDS } else { r.below(20) }),
             13 | 14 => Call::Create(t, object),
             15..=18 => Call::SetWord(t, object, field, word),
-            19..=21 => return Request::flush(t, page, image(r)),
+            19..=21 => return Request::flush(t, page, images::any(r)),
             22 | 23 => Call::Force,
             24 | 25 => Call::StorePage(page),
             26 => Call::EmptyLog,
@@ -261,7 +274,7 @@ impl Generator {
         if room < 2 && self.random.percent(drained) {
             return self.drain(a, &active);
         }
-        let weights = self.weights(active.len(), a.work[PHASE] != NO_PASS);
+        let weights = self.weights(active.len(), a);
         match self.random.weighted(&weights) {
             0 => Call::Begin(self.random.below(self.style.crowd + 1) as u32 % 16).into(),
             1 => {
@@ -282,8 +295,15 @@ impl Generator {
     }
 
     /// How often each kind of call is made, with so many transactions and a pass or none.
-    fn weights(&self, active: usize, pass: bool) -> [usize; 11] {
+    fn weights(&self, active: usize, a: &Areas) -> [usize; 11] {
+        let pass = a.work[PHASE] != NO_PASS;
         let building = self.style.habit == Habit::Building;
+        let step = match self.style.habit {
+            _ if !pass => 1,
+            Habit::Reading if a.work[PASS_STEP] == 0 => 4,
+            Habit::Reading => 15,
+            _ => 40,
+        };
         [
             if active < self.style.crowd { 12 } else { 1 }, // begin
             if active == 0 { 0 } else { 100 },              // of a transaction
@@ -291,7 +311,7 @@ impl Generator {
             6,                                              // store
             2,                                              // empty
             if pass || building { 1 } else { 8 },           // start
-            if pass { 40 } else { 1 },                      // step
+            step,                                           // step
             1,                                              // reopen, one time in six
             1,                                              // drain
             if building { 30 } else { 5 },                  // chain
@@ -328,10 +348,19 @@ impl Generator {
                 return call.into();
             }
         }
+        if let (Habit::Reading, true) = (self.style.habit, self.random.percent(80)) {
+            match self.of_tablet(a, t) {
+                Some(Call::Flush(_, page)) => return self.flush_page(t, page),
+                Some(call) => return call.into(),
+                None => {}
+            }
+        }
         let weights = match self.style.habit {
+            Habit::Reading if written.is_empty() => [10, 2, 10, 1, 1, 1, 2, 1, 1, 1],
             _ if written.is_empty() => [10, 40, 8, 1, 2, 1, 3, 2, 3, 2],
             Habit::Mixed => [4, 6, 12, 18, 34, 10, 5, 2, 3, 3],
             Habit::Building => [4, 6, 30, 14, 50, 10, 5, 0, 1, 1],
+            Habit::Reading => [8, 2, 24, 8, 14, 24, 3, 1, 2, 2],
             Habit::Trying => [4, 6, 10, 24, 40, 8, 2, 1, 12, 16],
             Habit::Crowding => [4, 10, 30, 0, 0, 20, 6, 0, 1, 0],
         };
@@ -347,6 +376,16 @@ impl Generator {
             7 => Call::Abort(t).into(),
             8 => Call::Mark(t, self.any_mark()).into(),
             _ => self.back(a, t).into(),
+        }
+    }
+
+    /// Builds, as long as there is little to read.
+    fn of_tablet(&mut self, a: &Areas, t: u32) -> Option<Call> {
+        let other = self.page();
+        if tablets::builds(a, t) {
+            tablets::build(a, t, other, &mut self.random)
+        } else {
+            tablets::next(a, t, &mut self.random)
         }
     }
 
@@ -425,7 +464,17 @@ impl Generator {
             Some(page) if self.random.percent(85) => page,
             _ => self.random.pick(written).unwrap_or(0),
         };
-        let image = if self.random.percent(88) { Image::Received } else { image(&mut self.random) };
+        self.flush_page(t, page)
+    }
+
+    /// With the received page, or the page as it once stood, or any image.
+    fn flush_page(&mut self, t: u32, page: u32) -> Request {
+        let r = &mut self.random;
+        let image = match r.below(100) {
+            0..=64 => Image::Received,
+            65..=79 => self.seen.image(page, r).unwrap_or(Image::Received),
+            _ => images::any(r),
+        };
         Request::flush(t, page, image)
     }
 
@@ -533,21 +582,6 @@ fn share(pages: usize, r: &mut Random) -> Request {
     Request::share(commits, words)
 }
 
-/// Flush images of every kind.
-fn image(r: &mut Random) -> Image {
-    match r.below(10) {
-        0 => Image::Copy,
-        1 => Image::Zeros,
-        2 => Image::Noise(r.next()),
-        3 => Image::Long(r.pick(&[0, 1, 128, 130, 258]).unwrap()),
-        4 => Image::Long(r.below(300)),
-        5 => Image::Changed(0, r.word() & 0xffff),
-        6 => Image::Changed(128, r.word()),
-        7 | 8 => Image::Changed(r.below(PAGE_WORDS), r.word() >> r.below(32)),
-        _ => Image::Received,
-    }
-}
-
 fn reserved(a: &Areas) -> usize {
     let mut changes = [0usize; 16];
     for i in 0..a.received_count().min(a.records()) {
@@ -581,6 +615,8 @@ pub fn plan(random: &mut Random, scope: Scope) -> (usize, usize, Style, usize) {
     let (pages, records) = match style.habit {
         // a store that a transaction or two can fill
         Habit::Crowding => (random.between(1, 2), random.between(80, 160)),
+        // pages to read side by side, and room to go on
+        Habit::Reading if !large => (random.between(1, 4), random.between(80, 160)),
         _ => size(random, large),
     };
     let calls = match style.filling {
@@ -622,8 +658,8 @@ fn style(random: &mut Random, scope: Scope) -> Style {
     let crowd = random.pick(&[1, 1, 2, 2, 3, 3, 5, 16]).unwrap();
     let plain = Style { cuts: 3, damage: 0, lengths: 4, wild: 40, crowd, habit: Habit::Mixed, filling: None };
     let styles = match scope {
-        Scope::Legal => [45, 20, 25, 35, 10, 0, 0, 0, 0, 0, 0, 0, 0],
-        _ => [45, 20, 15, 30, 8, 15, 20, 2, 10, 6, 12, 5, 10],
+        Scope::Legal => [45, 20, 25, 35, 10, 40, 0, 0, 0, 0, 0, 0, 0, 0],
+        _ => [45, 20, 15, 30, 8, 20, 15, 20, 2, 10, 6, 12, 5, 10],
     };
     let trying = Style { cuts: 2, wild: 15, crowd: crowd.min(3), habit: Habit::Trying, ..plain };
     match random.weighted(&styles) {
@@ -632,13 +668,14 @@ fn style(random: &mut Random, scope: Scope) -> Style {
         2 => Style { cuts: 1, wild: 10, crowd: crowd.min(2), habit: Habit::Building, ..plain },
         3 => trying,
         4 => Style { cuts: 1, wild: 10, crowd: crowd.min(2), habit: Habit::Crowding, ..plain },
-        5 => Style { damage: 150, ..plain },
-        6 => Style { wild: 250, lengths: 15, cuts: 1, damage: 80, filling: Some(Filling::Sound), ..plain },
-        7 => Style { wild: 600, filling: Some(Filling::Noise), ..plain },
-        8 => Style { filling: Some(Filling::Reopening), ..plain },
-        9 => Style { filling: Some(Filling::Damaged), ..plain },
-        10 => Style { damage: 30, lengths: 10, filling: Some(Filling::Linked), ..plain },
-        11 => Style { damage: 30, filling: Some(Filling::Contended), ..plain },
+        5 => Style { cuts: 2, wild: 15, crowd: crowd.clamp(2, 5), habit: Habit::Reading, ..plain },
+        6 => Style { damage: 150, ..plain },
+        7 => Style { wild: 250, lengths: 15, cuts: 1, damage: 80, filling: Some(Filling::Sound), ..plain },
+        8 => Style { wild: 600, filling: Some(Filling::Noise), ..plain },
+        9 => Style { filling: Some(Filling::Reopening), ..plain },
+        10 => Style { filling: Some(Filling::Damaged), ..plain },
+        11 => Style { damage: 30, lengths: 10, filling: Some(Filling::Linked), ..plain },
+        12 => Style { damage: 30, filling: Some(Filling::Contended), ..plain },
         _ => Style { damage: 30, filling: Some(Filling::Marked), ..trying },
     }
 }

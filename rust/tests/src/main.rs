@@ -20,17 +20,21 @@ mod examples;
 mod generate;
 mod graphs;
 mod holders;
+mod images;
 mod marks;
 mod open;
 mod oracle;
 mod passes;
 mod power;
 mod random;
+mod readers;
+mod reads;
 mod rubbish;
 mod run;
 mod shares;
 mod sides;
 mod steps;
+mod tablets;
 mod turns;
 mod whole;
 
@@ -41,7 +45,7 @@ use actions::List;
 use generate::{plan, Generator, Scope};
 use model::layout::*;
 use random::Random;
-use run::{report, Pair, Tally};
+use run::{readers_of_swept, report, Pair, Tally, Watch};
 use sides::{Kind, MODEL};
 
 struct Options {
@@ -117,10 +121,10 @@ fn run_examples() -> bool {
 }
 
 /// Runs random lists on both sides, led by the left one, until so many calls are made or the two
-/// differ: then the list and how many calls it took.
+/// differ, or what is watched does not hold of the left one: then the list and how many calls it took.
 pub fn random_lists(
-    left: Kind,
-    right: Kind,
+    [left, right]: [Kind; 2],
+    watch: Watch,
     seed: u64,
     calls: u64,
     scope: Scope,
@@ -134,20 +138,20 @@ pub fn random_lists(
         let (pages, records, style, length) = plan(&mut random, scope);
         let mut generator = Generator::new(random, style, pages);
         let mut pair = Pair::new(left, right, pages, records);
+        pair.watch = watch;
         let mut list = List { pages, records, actions: Vec::new() };
         while list.actions.len() < length && made < calls {
             AREAS.iter().for_each(|&area| pair.left.area(area).clone_into(lead.of_mut(area)));
             let action = generator.next(&lead);
-            let sweeping = lead.work[PHASE] == SWEEPING;
+            let swept = readers_of_swept(&lead);
             list.actions.push(action.clone());
             made += u64::from(action.call().is_some());
             match pair.step(&action) {
-                Ok(answer) => tally.note(&action, answer, sweeping),
+                Ok(answer) => tally.note(&action, answer, swept),
                 Err(_) => return Some((list, made)),
             }
         }
-        tally.held += pair.held_calls;
-        tally.full_passes += pair.steps.full_passes;
+        tally.add(&pair);
     }
     None
 }
@@ -155,7 +159,8 @@ pub fn random_lists(
 fn run_random(options: &Options) -> bool {
     let mut tally = Tally::new();
     let started = Instant::now();
-    let found = random_lists(Kind::Library, MODEL, options.seed, options.calls, options.scope(), &mut tally);
+    let sides = [Kind::Library, MODEL];
+    let found = random_lists(sides, Watch::All, options.seed, options.calls, options.scope(), &mut tally);
     let seconds = started.elapsed().as_secs_f64();
     tally.print();
     println!("{:.1} s, {:.0} calls per second, seed {}", seconds, tally.calls as f64 / seconds, options.seed);

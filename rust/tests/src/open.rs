@@ -9,6 +9,7 @@ use model::{whole, Fault, Model, Refusal};
 use crate::actions::{Action, Filling};
 use crate::generate::{size, Generator, Habit, Style};
 use crate::random::Random;
+use crate::reads::Reads;
 use crate::rubbish::fill;
 use crate::run::Pair;
 use crate::sides::{Kind, MODEL};
@@ -108,13 +109,14 @@ fn formats_alike(pages: usize, records: usize) -> bool {
 fn go_on(areas: &Areas, random: &mut Random) -> Result<(Areas, u64), String> {
     let audit = Action::from(Call::LockRead(16, 0));
     let crowd = random.between(1, 4);
-    let habits = [Habit::Mixed, Habit::Building, Habit::Trying, Habit::Crowding];
-    let habit = habits[random.weighted(&[45, 20, 25, 10])];
+    let habits = [Habit::Mixed, Habit::Building, Habit::Trying, Habit::Crowding, Habit::Reading];
+    let habit = habits[random.weighted(&[40, 18, 22, 8, 12])];
     let style = Style { cuts: 6, damage: 0, lengths: 0, wild: 40, crowd, habit, filling: None };
     let mut generator = Generator::new(Random::new(random.next()), style, areas.pages()).going_on();
     let mut pair = Pair::new(Kind::Library, MODEL, areas.pages(), areas.records());
     pair.load(areas);
     pair.steps = Steps::reopened();
+    pair.reads = Reads::reopened();
     let mut calls = 0;
     for _ in 0..random.between(20, 400) {
         let action = generator.next(&pair.areas());

@@ -5,7 +5,9 @@
 //!
 //! One known difference is kept out of the lists: the oracle has no bound on the pass's step number,
 //! which docs/LAYOUT.md ends at 17 x P (DECISIONS 35). Others are those of document 02: the oracle is
-//! of document 01, where refusal 6 has the value 0 and there are no marks, whose words stay 0.
+//! of document 01, where refusal 6 has the value 0 and there are no marks, whose words stay 0; where a
+//! page with any lock is skipped, so the model does likewise here; and where an image must equal the
+//! received page, so that one which the model takes goes as that page.
 
 use std::fmt::Write as _;
 use std::io::Write as _;
@@ -21,7 +23,7 @@ use crate::actions::*;
 use crate::generate::{plan, Generator, Scope};
 use crate::random::Random;
 use crate::rubbish::fill;
-use crate::run::Tally;
+use crate::run::{readers_of_swept, Tally};
 
 const SINGLES: [&str; 6] = ["reopening", "reopening_page", "phase", "pass_page", "pass_steps", "active"];
 /// The protocol's tables: name, table, number of the first entry.
@@ -42,8 +44,13 @@ struct Script {
     expected: Vec<(usize, String)>,
 }
 
+/// The model, with document 01's sweeping.
+fn model(pages: usize, records: usize) -> Model {
+    Model { fault: Fault::ReadersHoldUpSweeping, ..Model::new(pages, records) }
+}
+
 fn script(list: &List) -> Script {
-    let mut model = Model::new(list.pages, list.records);
+    let mut model = model(list.pages, list.records);
     let init = format!("init,{},{}\n", list.pages, list.records);
     let mut script = Script { input: init.clone(), expected: Vec::new() };
     model.format().unwrap();
@@ -82,16 +89,18 @@ impl Script {
         let call = request.call;
         let mut buffer = [0; OBJECT_WORDS];
         let image = request.image(&model.areas.received, &model.areas.copies);
+        let answer = model.perform(call, Lent { buffer: &mut buffer, image: &image });
         match call {
             Call::Read(t, object) => writeln!(self.input, "readw,{t},{object}").unwrap(),
             Call::Flush(t, page) => {
+                let taken = answer >> 32 == 0;
+                let sent = if taken { &model.areas.received[page_range(page as usize)] } else { &image };
                 write!(self.input, "flushi,{t},{page}").unwrap();
-                image.iter().for_each(|word| write!(self.input, ",{word}").unwrap());
+                sent.iter().for_each(|word| write!(self.input, ",{word}").unwrap());
                 self.input.push('\n');
             }
             _ => writeln!(self.input, "{call}").unwrap(),
         }
-        let answer = model.perform(call, Lent { buffer: &mut buffer, image: &image });
         if call == Call::PassStep && model.areas.work[PASS_STEP] == 17 * model.areas.pages() as u32 {
             // the oracle counts on past the bound of DECISIONS 35
             writeln!(self.input, "poke,W,pass_steps,0,{}", model.areas.work[PASS_STEP]).unwrap();
@@ -227,14 +236,14 @@ pub fn run(program: &str, seed: u64, calls: u64, scope: Scope) -> bool {
             let mut random = Random::new(seeds.next());
             let (pages, records, style, length) = plan(&mut random, scope);
             let mut generator = Generator::new(random, style, pages);
-            let mut model = Model { fault: Fault::None, ..Model::new(pages, records) };
+            let mut model = model(pages, records);
             let mut list = List { pages, records, actions: vec![Call::Format.into()] };
             model.format().unwrap();
             while list.actions.len() < length && tally.calls < until {
-                let sweeping = model.areas.work[PHASE] == SWEEPING;
+                let swept = readers_of_swept(&model.areas);
                 let Some(action) = sayable(generator.next(&model.areas), pages) else { continue };
                 let answer = follow(&mut model, &action);
-                tally.note(&action, answer, sweeping);
+                tally.note(&action, answer, swept);
                 list.actions.push(action);
             }
             lists.push(list);

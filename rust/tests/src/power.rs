@@ -6,7 +6,7 @@ use model::faults::{COLUMN_FAULTS, FAULTS, WHOLE_FAULTS};
 use model::Fault;
 
 use crate::generate::Scope;
-use crate::run::{report, Tally};
+use crate::run::{report, Tally, Watch};
 use crate::sides::Kind;
 use crate::{columns, examples, random_lists, turns, whole};
 
@@ -15,8 +15,8 @@ const UNCHANGED: Kind = Kind::Library;
 
 /// After how many calls of random lists the fault is noticed.
 fn noticed(fault: Fault, seed: u64, calls: u64, scope: Scope) -> Option<u64> {
-    let faulty = Kind::Model(fault);
-    random_lists(UNCHANGED, faulty, seed, calls, scope, &mut Tally::new()).map(|(_, calls)| calls)
+    let sides = [UNCHANGED, Kind::Model(fault)];
+    random_lists(sides, Watch::All, seed, calls, scope, &mut Tally::new()).map(|(_, calls)| calls)
 }
 
 /// Prints how the named fault shows: the shrunk list and the least state, or the page area, or the page.
@@ -36,7 +36,7 @@ pub fn show(name: &str, seed: u64, calls: u64) -> bool {
     } else if COLUMN_FAULTS.contains(named) {
         columns::noticed(sides, seed, calls).map(|(_, lent)| lent.report(sides))
     } else {
-        let list = random_lists(UNCHANGED, faulty, seed, calls, Scope::Small, &mut Tally::new());
+        let list = random_lists(sides, Watch::All, seed, calls, Scope::Small, &mut Tally::new());
         list.map(|(list, _)| report(&list, UNCHANGED, faulty))
     };
     shows.unwrap_or_else(|| println!("not noticed in {calls} calls, page areas or pages"));
@@ -96,11 +96,30 @@ const TALLIED: [Fault; 9] = [
     Fault::ReopenKeepsPass,
 ];
 
-fn tally_table(seed: u64, calls: u64) -> Table {
+/// .. so that what was read before alone can.
+const READ_AGAIN: [Fault; 13] = [
+    Fault::ReadShowsZeros,
+    Fault::CotDroppedAtCommitInPass,
+    Fault::PrunedNoRoots,
+    Fault::PrunedStaysWhite,
+    Fault::SweepIgnoresFlaggedCot,
+    Fault::WriterBesideReaders,
+    Fault::WriterThatReadsBecomesReader,
+    Fault::WritesUnderReadLock,
+    Fault::ReadsCopies,
+    Fault::CreateMakesNoCotEntry,
+    Fault::BackGivesUpLocks,
+    Fault::SweepDropsReadLocks,
+    Fault::SweptPageIsForgotten,
+];
+
+/// Faults in both sides, noticed by what is watched alone.
+fn watched_table(watch: Watch, faults: &[Fault], seed: u64, calls: u64) -> Table {
     let mut table = Table::default();
-    for fault in TALLIED {
-        let both = Kind::Model(fault);
-        let found = random_lists(both, both, seed, calls, Scope::Legal, &mut Tally::new()).map(|(_, calls)| calls);
+    for &fault in faults {
+        let both = [Kind::Model(fault); 2];
+        let found = random_lists(both, watch, seed, calls, Scope::Legal, &mut Tally::new());
+        let found = found.map(|(_, calls)| calls);
         table.add(fault, found, &[&shown(found)]);
     }
     table
@@ -132,13 +151,18 @@ fn columns_table(seed: u64, pages: u64) -> Table {
 pub fn run(seed: u64, calls: u64, write: Option<&str>) -> bool {
     std::panic::set_hook(Box::new(|_| {})); // a faulty model may panic: that is noticed too
     let tenth = calls / 10;
-    let tables =
-        [calls_table(seed, calls), tally_table(seed, tenth), whole_table(seed, tenth), columns_table(seed, tenth)];
+    let tables = [
+        calls_table(seed, calls),
+        watched_table(Watch::Steps, &TALLIED, seed, tenth),
+        watched_table(Watch::Reads, &READ_AGAIN, seed, calls),
+        whole_table(seed, tenth),
+        columns_table(seed, tenth),
+    ];
     let missed: usize = tables.iter().map(|table| table.missed).sum();
     let faults = FAULTS.len() + WHOLE_FAULTS.len() + COLUMN_FAULTS.len();
     println!("power: {faults} faults against {}, {missed} not noticed", UNCHANGED.name());
     if let Some(path) = write {
-        let [table, tally_table, whole_table, columns_table] =
+        let [table, tally_table, reads_table, whole_table, columns_table] =
             tables.each_ref().map(|table| table.lines.trim_end());
         let text = format!(
             include_str!("tests.md"),
@@ -151,6 +175,8 @@ pub fn run(seed: u64, calls: u64, write: Option<&str>) -> bool {
             table = table,
             tallied = TALLIED.len(),
             tally_table = tally_table,
+            read_again = READ_AGAIN.len(),
+            reads_table = reads_table,
             whole_table = whole_table,
             columns_table = columns_table
         );

@@ -1,6 +1,6 @@
 //! Runs actions on two sides and compares every answer and every lent word after each; shrinks a
-//! list on which they differ. Beside the library's calls their held forms are made; and the steps of its
-//! passes are tallied.
+//! list on which they differ. Beside the library's calls their held forms are made; the steps of its
+//! passes are tallied, and what its transactions read is held to what they read before.
 
 use std::panic::{catch_unwind, AssertUnwindSafe};
 
@@ -10,9 +10,18 @@ use model::layout::*;
 use model::{Fault, Model};
 
 use crate::actions::*;
+use crate::reads::Reads;
 use crate::rubbish::fill;
 use crate::sides::Kind;
 use crate::steps::Steps;
+
+/// What the left side is held to, beside the right one.
+#[derive(Clone, Copy, PartialEq)]
+pub enum Watch {
+    All,
+    Steps,
+    Reads,
+}
 
 pub struct Pair {
     pub left: Box<dyn Side>,
@@ -25,6 +34,11 @@ pub struct Pair {
     pub buffer: Vec<u32>,
     /// Of the left side's passes.
     pub steps: Steps,
+    /// Of its reads.
+    pub reads: Reads,
+    pub watch: Watch,
+    /// Flushes that it took, of images that were not the received page.
+    pub unlike_flushes: u64,
     pages: usize,
     records: usize,
 }
@@ -33,31 +47,53 @@ pub struct Pair {
 const NUMBERS: usize = 18;
 
 /// The answers that a run saw, by call and answer number (the last for others), and what it reached.
-#[derive(Clone)]
+#[derive(Clone, Default)]
 pub struct Tally {
     pub answers: Vec<[u64; NUMBERS + 1]>,
     pub calls: u64,
     pub held: u64,
     pub cuts: u64,
     pub freed: u64,
+    /// .. on pages that someone reads.
+    pub freed_read: u64,
     pub longest_chain: u64,
     pub full_passes: u64,
+    pub unlike_flushes: u64,
+    pub reads_again: u64,
+}
+
+/// Who reads the page that a sweeping step would meet, if the pass sweeps.
+pub fn readers_of_swept(a: &Areas) -> Option<u32> {
+    let page = a.work[PASS_PAGE] as usize;
+    (a.work[PHASE] == SWEEPING && page < a.pages()).then(|| a.get(Table::Readers, page))
 }
 
 impl Tally {
     pub fn new() -> Tally {
         let answers = vec![[0; NUMBERS + 1]; NAMES.len()];
-        Tally { answers, calls: 0, held: 0, cuts: 0, freed: 0, longest_chain: 0, full_passes: 0 }
+        Tally { answers, ..Tally::default() }
     }
 
-    pub fn note(&mut self, action: &Action, answer: u64, sweeping: bool) {
+    /// What a list reached.
+    pub fn add(&mut self, pair: &Pair) {
+        self.held += pair.held_calls;
+        self.full_passes += pair.steps.full_passes;
+        self.unlike_flushes += pair.unlike_flushes;
+        self.reads_again += pair.reads.again;
+    }
+
+    /// An action and its answer, and who read the page that a sweeping step met, where the pass swept.
+    pub fn note(&mut self, action: &Action, answer: u64, swept: Option<u32>) {
         if let Some(call) = action.call() {
             self.calls += 1;
             let number = ((answer >> 32) as usize).min(NUMBERS);
             let kind = NAMES.iter().position(|&name| name == call.name()).unwrap();
             self.answers[kind][number] += 1;
             match call {
-                Call::PassStep if number == 0 && sweeping => self.freed += answer & 0xffff_ffff,
+                Call::PassStep if number == 0 => {
+                    self.freed += swept.map_or(0, |_| answer);
+                    self.freed_read += swept.filter(|&readers| readers != 0).map_or(0, |_| answer);
+                }
                 Call::Chain(_) if number == 0 => self.longest_chain = self.longest_chain.max(answer),
                 _ => {}
             }
@@ -79,6 +115,10 @@ impl Tally {
         println!(
             "{} calls, {} of them held too, {} cuts, {} slots freed, longest chain {}, {} passes of 17 x P + 1 steps",
             self.calls, self.held, self.cuts, self.freed, self.longest_chain, self.full_passes
+        );
+        println!(
+            "{} of the slots on pages that were read, {} images taken that were not the received page, {} reads held to one before",
+            self.freed_read, self.unlike_flushes, self.reads_again
         );
     }
 }
@@ -110,6 +150,9 @@ impl Pair {
             held_calls: 0,
             buffer: Vec::new(),
             steps: Steps::default(),
+            reads: Reads::default(),
+            watch: Watch::All,
+            unlike_flushes: 0,
             pages,
             records,
         }
@@ -127,10 +170,17 @@ impl Pair {
         areas
     }
 
-    /// Does the action on both sides: the left side's answer, or what differs, or what does not hold of its steps.
+    /// Does the action on both sides: the left side's answer, or what differs, or what does not hold of its steps or
+    /// its reads.
     pub fn step(&mut self, action: &Action) -> Result<u64, String> {
         let answer = self.act(action)?;
-        self.steps.after(action, answer, &mut *self.left).map(|_| answer)
+        if self.watch != Watch::Reads {
+            self.steps.after(action, answer, &mut *self.left)?;
+        }
+        if self.watch != Watch::Steps {
+            self.reads.after(action, answer, &self.buffer)?;
+        }
+        Ok(answer)
     }
 
     fn act(&mut self, action: &Action) -> Result<u64, String> {
@@ -178,6 +228,7 @@ impl Pair {
 
     pub fn load(&mut self, areas: &Areas) {
         self.steps = Steps::default();
+        self.reads = Reads::default();
         for side in self.sides() {
             AREAS.iter().for_each(|&area| side.area_mut(area).clone_from(areas.of(area)));
         }
@@ -197,6 +248,10 @@ impl Pair {
         }
         unlike(&self.buffer, &buffer)?;
         self.held_call(request, &image, left).map_err(|what| format!("held: {what}"))?;
+        if let (Call::Flush(_, page), 0) = (request.call, left >> 32) {
+            let received = &self.left.area(Area::Received)[page_range(page as usize)];
+            self.unlike_flushes += u64::from(received != image);
+        }
         self.compare().map(|_| left)
     }
 

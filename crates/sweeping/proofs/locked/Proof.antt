@@ -4,7 +4,7 @@ use Rattle.sweeping.proofs.locked.Statement.{statement}
 use Rattle.sweeping.proofs.locked.Tie as tie
 
 returns : tie.Need-returns
-returns c = locked-at (c .before .before .before .before .before .args .work .now) (c .before .before .before .before .before .args .n) (c .before .before .before .before .before .args .p) _ _ (c .before .before .before .readers-at .ensures) (c .before .writers-at .ensures)
+returns c = let a = c .before .before .before .args in locked-at (a .work .now) (a .n) (a .p) _ (c .before .writers-at .ensures)
 
 pub locked-spec : {M : Type 1} → statement M
-locked-spec = tie.close (tie.spec (λ c κs. search needs) (λ c. search needs) (λ c. search needs) (λ c κs. search needs) (λ c. search needs) (λ c. search needs) returns)
+locked-spec = tie.close (tie.spec (λ c κs. search needs) (λ c. search needs) (λ c. search needs) returns)

@@ -4,8 +4,7 @@ use native.Mathlib.Omega.{arith}
 use Prim.Native.Nat.{_≤_, _-_}
 use mathlib.Core.Path.{_≡_}
 use lib.ListN.{length}
-use Rattle.words.specs.Spans.{same}
-use Rattle.page_ops.specs.Agreement.{same-none, same-next, same-end}
+use Rattle.words.specs.Spans.{same, same-none, same-next, same-end}
 use Rattle.page_ops.proofs.copy.areas_agree.Statement.{statement}
 use Rattle.page_ops.proofs.copy.areas_agree.Tie as tie
 
@@ -19,7 +18,7 @@ loop-holds : tie.Need-loop-holds Inv-loop μ-loop
 loop-holds c = (omega arith, same-none _ _ _ _)
 
 loop-again : tie.Need-loop-again Inv-loop μ-loop
-loop-again c = (omega arith, same-next _ _ _ _ _ _ (c .before .before .before .loop .inv .1) (omega arith))
+loop-again c = (omega arith, same-next _ _ _ _ _ _ _ _ (c .before .before .before .loop .inv .1) (omega arith) (omega arith))
 
 returns : tie.Need-returns Inv-loop μ-loop
 returns c = same-end _ _ _ _ _ _ _ (c .before .loop .inv .1) (omega arith)

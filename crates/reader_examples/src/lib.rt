@@ -1,0 +1,1 @@
+// The examples are definitions and laws alone.
