@@ -29,7 +29,7 @@ pub mod MarkNotes
 pub mod MarkSteps
 pub mod MarkMoves
 pub mod MarkCalls
-pub mod Restoring
 pub mod Untouched
+pub mod Restoring
 pub mod Readers
 pub mod Recall

@@ -45,7 +45,7 @@ use Rattle.guarantees.specs.Holders.{Granted, granting, holds}
 use Rattle.guarantees.specs.Readers.{own}
 use Rattle.guarantees.specs.Recall.{Recalled, these, forgets, recalling, recollection, SeenAgain, AlwaysSeenAgain}
 use Rattle.guarantees.proofs.Always.{Sure, as-storing}
-use Rattle.guarantees.proofs.Untouched.{quiet, quiet-received, create-received, set-received, foreign-stays}
+use Rattle.guarantees.proofs.Untouched.{quiet, quiet-areas, flush-received, create-received, set-received, foreign-stays}
 use Rattle.guarantees.proofs.Closing.{here, closed-after}
 use Rattle.guarantees.proofs.Granted.{Agrees, accepted-agrees}
 use Rattle.guarantees.proofs.Holders.{holds-bit, active-in, active-bit, runs-so}
@@ -192,7 +192,7 @@ module _ (n : ℕ) (some : 1 ≤ n) (s : Areas) (b : Book) (v : Inv3 n s b) (l :
   }
 
   quiet-stays : (c : Call) → quiet c ≡ true → over t c ≡ false → reopens c ≡ false → accepted (perform s c .answer) ≡ true → (k : Recalled) → Words k → OfRead n s b l t x → After c k
-  quiet-stays c z d r a = entry-stays c d r a (ap (λ (w : List ℕ). view w x) (quiet-received n some s b v c z a))
+  quiet-stays c z d r a = entry-stays c d r a (ap (λ (w : List ℕ). view w x) (quiet-areas n some s b v c z a .0))
 
   other-stays : (c : Call) → own t c ≡ false → over t c ≡ false → reopens c ≡ false → accepted (perform s c .answer) ≡ true → (k : Recalled) → Words k → OfRead n s b l t x → After c k
   other-stays c z d r a k words o = entry-stays c d r a (foreign-stays n some s b v (granted (s .work) n) (agreed (s .work) n) t x (o .lock) c z r (λ e. o .knows) a .0) k words o
@@ -214,7 +214,7 @@ module _ (n : ℕ) (some : 1 ≤ n) (s : Areas) (b : Book) (v : Inv3 n s b) (l :
     low = f .object .low;
     knows = knows-after (read t x buffer) refl refl a (Facts.read-facts s n (machine n s b) (machine-shows n s b) t x f .known);
     lock = locked-after (read t x buffer) refl refl a (held (f .object) (f .txn) (f .lock));
-    same = λ h w. rw (eq-eqb t t refl, eq-eqb x x refl) (ap (λ (z : List ℕ). view z x .word h) (quiet-received n some s b v (read t x buffer) refl a) ∙ view-word (s .received) x (f .object .low) h w);
+    same = λ h w. rw (eq-eqb t t refl, eq-eqb x x refl) (ap (λ (z : List ℕ). view z x .word h) (quiet-areas n some s b v (read t x buffer) refl a .0) ∙ view-word (s .received) x (f .object .low) h w);
   }
 
   create-found : accepted (perform s (create t x) .answer) ≡ true → CreateFacts s n t x
@@ -280,7 +280,7 @@ module _ (n : ℕ) (some : 1 ≤ n) (s : Areas) (b : Book) (v : Inv3 n s b) (l :
     accepted-seen (setWord u y f w) a e = by-bool (these u y t x)
         (λ z. let p = and-split (eqb t u) (eqb x y) z in let d = sym (eqb-true t u (p .0)) in let k = sym (eqb-true x y (p .1)) in rw (d, k) (own-set f w (rw (d, k) at a) (old e)))
         (λ z. elsewhere u y (setWord u y f w) refl refl refl z a (λ d. set-received n some s b v u y f w a x ∙ rw d) _ (λ h. rw z refl) (old e))
-    accepted-seen (flush u p image) a e = quiet-stays (flush u p image) refl refl refl a l (λ f. refl) (old e)
+    accepted-seen (flush u p image) a e = entry-stays (flush u p image) refl refl a (ap (λ (w : List ℕ). view w x) (flush-received n some s b v u p image a)) l (λ f. refl) (old e)
     accepted-seen force a e = quiet-stays force refl refl refl a l (λ f. refl) (old e)
     accepted-seen (store p) a e = quiet-stays (store p) refl refl refl a l (λ f. refl) (old e)
     accepted-seen empty a e = quiet-stays empty refl refl refl a l (λ f. refl) (old e)

@@ -24,7 +24,7 @@ use Rattle.book_laws.specs.Keeping.{Runs}
 use Rattle.book_laws.proofs.GoingBack.{went-running}
 use Rattle.book_laws.proofs.Pages.{committed-view}
 use Rattle.book_laws.proofs.OwnPages.{appliedAll, leftOf, own-view}
-use Rattle.book_laws.proofs.GoneBack.{went-own, went-committed, went-full}
+use Rattle.book_laws.proofs.GoneBack.{went-own, went-committed}
 use Rattle.demand.proofs.State.{OpenInv}
 use Rattle.demand.proofs.Finished.{accepted-open}
 use Rattle.demand.proofs.Change.{full-shown}
@@ -35,6 +35,7 @@ use Rattle.guarantees.proofs.Always.{Sure, as-open}
 use Rattle.guarantees.proofs.Granted.{accepted-agrees}
 use Rattle.guarantees.proofs.Ledgers.{always-kept}
 use Rattle.guarantees.proofs.MarkNotes.{oldest, AtMark}
+use Rattle.guarantees.proofs.Untouched.{back-leaves}
 use Rattle.guarantees.proofs.MarkCalls.{Restorable, keep-restorable, start-restorable, disk-restorable}
 
 pub same-object : (x : ℕ) → 1 ≤ x → (a b : List ℕ) → view a x ≡ view b x → SameObject x a b
@@ -104,10 +105,7 @@ module _ (n : ℕ) (some : 1 ≤ n) (q : Point) (l : Noted) (u : Sure n q) (j : 
       shows-own x (rw d w) ∙ noted .free x (rw d e) (seenCommitted b x .object) ∙ sym (committed-view n b (i .sound) x))
 
   other-page : (p : ℕ) → l .granted .writes t p ≡ false → SamePage p (s₁ .received) (s .received)
-  other-page p e = same-page p (s₁ .received) (s .received) (λ x d.
-      sym (full-shown n s₁ b₁ i₁ x)
-      ∙ ap (λ (v : Seen). v .object) (went-full t (locksOf (s .work) n .wr) k b (i .book) (i .writers) (noted .runs) (omega arith) x (sym (j .ledgered .agrees .writers t (pageOf x)) ∙ rw d e))
-      ∙ full-shown n s b i x)
+  other-page p e = same-page p (s₁ .received) (s .received) (λ x d. back-leaves n some s b (u .inv) t m a x (sym (j .ledgered .agrees .writers t (pageOf x)) ∙ rw d e) .0)
 
 restores : (n : ℕ) → 1 ≤ n → (q : Point) (l : Noted) → Sure n q → Restorable n q l → Restores q l
 restores n some q l u j = record {

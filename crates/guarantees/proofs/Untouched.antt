@@ -63,7 +63,7 @@ use Rattle.guarantees.proofs.Through.{through}
 use Rattle.guarantees.proofs.Closing.{here}
 use Rattle.guarantees.proofs.Granted.{Agrees}
 
--- calls that leave the received pages as they are
+-- calls that leave received pages and copies as they are
 abbrev pub quiet : Call → Bool
 quiet (begin t) = true
 quiet (commit t) = true
@@ -73,7 +73,7 @@ quiet (lockWrite t p) = true
 quiet (read t x buffer) = true
 quiet (create t x) = false
 quiet (setWord t x f v) = false
-quiet (flush t p image) = true
+quiet (flush t p image) = false
 quiet force = true
 quiet (store p) = true
 quiet empty = true
@@ -90,30 +90,34 @@ module _ (n : ℕ) (some : 1 ≤ n) (s : Areas) (b : Book) (v : Inv3 n s b) wher
   size : (c : Call) → reopens c ≡ false → accepted (perform s c .answer) ≡ true → Rattle.areas.specs.Entry.pages s ≡ n
   size c r a = here n some s b v c r a .size
 
-  abbrev Received : Areas → Type 0
-  Received a = a .received ≡ s .received
+  abbrev Same : Areas → Type 0
+  Same a = (a .received ≡ s .received) × (a .copies ≡ s .copies)
 
-  pub quiet-received : (c : Call) → quiet c ≡ true → accepted (perform s c .answer) ≡ true → perform s c .after .received ≡ s .received
-  unfolding perform begun committed flushed markSet appended effect
-  quiet-received (begin t) e a = through true s _ _ _ n Received (begin-outcome s t) a (size (begin t) refl a) (λ h k. refl)
-  quiet-received (commit t) e a = through true s _ _ _ n Received (commit-outcome s t) a (size (commit t) refl a) (λ h k. refl)
-  quiet-received (abort t) e a = clash e refl
-  quiet-received (lockRead t p) e a = through true s _ _ _ n Received (lock-read-outcome s t p) a (size (lockRead t p) refl a) (λ h k. refl)
-  quiet-received (lockWrite t p) e a = through true s _ _ _ n Received (lock-write-outcome s t p) a (size (lockWrite t p) refl a) (λ h k. refl)
-  quiet-received (read t x buffer) e a = through (eqb (length buffer) slotWords) s _ _ _ n Received (read-outcome s t x buffer) a (size (read t x buffer) refl a) (λ h k. refl)
-  quiet-received (create t x) e a = clash e refl
-  quiet-received (setWord t x f w) e a = clash e refl
-  quiet-received (flush t p image) e a = through (eqb (length image) pageWords) s _ _ _ n Received (flush-outcome s t p image) a (size (flush t p image) refl a) (λ h k. refl)
-  quiet-received force e a = through true s _ _ _ n Received (force-outcome s) a (size force refl a) (λ h k. refl)
-  quiet-received (store p) e a = through true s _ _ _ n Received (store-outcome s p) a (size (store p) refl a) (λ h k. refl)
-  quiet-received empty e a = through true s _ _ _ n Received (empty-outcome s) a (size empty refl a) (λ h k. refl)
-  quiet-received pass e a = through true s _ _ _ n Received (pass-outcome s) a (size pass refl a) (λ h k. refl)
-  quiet-received step e a = clash e refl
-  quiet-received reopen e a = clash e refl
-  quiet-received restep e a = clash e refl
-  quiet-received (mark t m) e a = through true s _ _ _ n Received (mark-outcome s t m) a (size (mark t m) refl a) (λ h k. refl)
-  quiet-received (back t m) e a = clash e refl
-  quiet-received (look q) e a = ap (λ (z : Areas). z .received) (look-keeps s q)
+  pub quiet-areas : (c : Call) → quiet c ≡ true → accepted (perform s c .answer) ≡ true → Same (perform s c .after)
+  unfolding perform begun committed markSet appended effect
+  quiet-areas (begin t) e a = through true s _ _ _ n Same (begin-outcome s t) a (size (begin t) refl a) (λ h k. (refl, refl))
+  quiet-areas (commit t) e a = through true s _ _ _ n Same (commit-outcome s t) a (size (commit t) refl a) (λ h k. (refl, refl))
+  quiet-areas (abort t) e a = clash e refl
+  quiet-areas (lockRead t p) e a = through true s _ _ _ n Same (lock-read-outcome s t p) a (size (lockRead t p) refl a) (λ h k. (refl, refl))
+  quiet-areas (lockWrite t p) e a = through true s _ _ _ n Same (lock-write-outcome s t p) a (size (lockWrite t p) refl a) (λ h k. (refl, refl))
+  quiet-areas (read t x buffer) e a = through (eqb (length buffer) slotWords) s _ _ _ n Same (read-outcome s t x buffer) a (size (read t x buffer) refl a) (λ h k. (refl, refl))
+  quiet-areas (create t x) e a = clash e refl
+  quiet-areas (setWord t x f w) e a = clash e refl
+  quiet-areas (flush t p image) e a = clash e refl
+  quiet-areas force e a = through true s _ _ _ n Same (force-outcome s) a (size force refl a) (λ h k. (refl, refl))
+  quiet-areas (store p) e a = through true s _ _ _ n Same (store-outcome s p) a (size (store p) refl a) (λ h k. (refl, refl))
+  quiet-areas empty e a = through true s _ _ _ n Same (empty-outcome s) a (size empty refl a) (λ h k. (refl, refl))
+  quiet-areas pass e a = through true s _ _ _ n Same (pass-outcome s) a (size pass refl a) (λ h k. (refl, refl))
+  quiet-areas step e a = clash e refl
+  quiet-areas reopen e a = clash e refl
+  quiet-areas restep e a = clash e refl
+  quiet-areas (mark t m) e a = through true s _ _ _ n Same (mark-outcome s t m) a (size (mark t m) refl a) (λ h k. (refl, refl))
+  quiet-areas (back t m) e a = clash e refl
+  quiet-areas (look q) e a = rw (look-keeps s q) (refl, refl)
+
+  pub flush-received : (t p : ℕ) (image : List ℕ) → accepted (perform s (flush t p image) .answer) ≡ true → perform s (flush t p image) .after .received ≡ s .received
+  unfolding perform flushed
+  flush-received t p image a = through (eqb (length image) pageWords) s _ _ _ n (λ z. z .received ≡ s .received) (flush-outcome s t p image) a (size (flush t p image) refl a) (λ h k. refl)
 
   pub create-received : (t y : ℕ) → accepted (perform s (create t y) .answer) ≡ true → (x : ℕ) → view (perform s (create t y) .after .received) x ≡ if (eqb x y) fresh (view (s .received) x)
   unfolding perform created appended effect
@@ -182,6 +186,12 @@ module _ (n : ℕ) (some : 1 ≤ n) (s : Areas) (b : Book) (i : OpenInv n s b) (
       rw (Abort.areas-same n some s b i h u f)
       (q .0, restored-view (s .work) n u (a .received) (s .copies) (w .sized .received-len) (h .sized .copies-len) (f .txn) x ∙ rw off refl)
 
+pub back-leaves : (n : ℕ) → 1 ≤ n → (s : Areas) (b : Book) → Inv3 n s b → (u m : ℕ) → accepted (perform s (back u m) .answer) ≡ true
+    → (x : ℕ) → locksOf (s .work) n .wr u (pageOf x) ≡ false → Stays s (perform s (back u m) .after) x
+unfolding perform
+back-leaves n some s b v u m a x off = let i = here n some s b v (back u m) refl a in
+    through true s _ _ _ n (λ z. Stays s z x) (back-outcome s u m) a (i .size) (λ h c. back-stays n some s b i h u x off m (back-facts s n u m c))
+
 -- another's call, and an object on a page that t holds
 module _ (n : ℕ) (some : 1 ≤ n) (s : Areas) (b : Book) (v : Inv3 n s b) (l : Granted) (g : Agrees n (s .work) l) (t x : ℕ) (lock : holds l t (pageOf x) ≡ true) where
   abbrev After : Areas → Type 0
@@ -203,15 +213,18 @@ module _ (n : ℕ) (some : 1 ≤ n) (s : Areas) (b : Book) (v : Inv3 n s b) (l :
   other-object : OpenInv n s b → (u y : ℕ) → eqb u t ≡ false → u < txnCount → pageOf y < n → canWrite (s .work) n u (pageOf y) ≡ true → eqb x y ≡ false
   other-object i u y d small below w = ne-eqb x y (λ e. eqb-false (pageOf x) (pageOf y) (elsewhere i u (pageOf y) d small below w) (ap pageOf e))
 
+  both : (c : Call) → quiet c ≡ true → accepted (perform s c .answer) ≡ true → Stays s (perform s c .after) x
+  both c e a = let k = quiet-areas n some s b v c e a in (ap (λ (z : List ℕ). view z x) (k .0), ap (λ (z : List ℕ). view z x) (k .1))
+
   pub foreign-stays : (c : Call) → own t c ≡ false → reopens c ≡ false → (c ≡ step → tablesOf (s .work) n .kn t x ≡ true) → accepted (perform s c .answer) ≡ true → Stays s (perform s c .after) x
-  unfolding perform begun committed created wordSet flushed markSet appended effect O.pageOf
-  foreign-stays (begin u) d r k a = through true s _ _ _ n After (begin-outcome s u) a (size n some s b v (begin u) refl a) (λ h c. (refl, refl))
-  foreign-stays (commit u) d r k a = through true s _ _ _ n After (commit-outcome s u) a (size n some s b v (commit u) refl a) (λ h c. (refl, refl))
+  unfolding perform created wordSet flushed appended effect O.pageOf
+  foreign-stays (begin u) d r k a = both (begin u) refl a
+  foreign-stays (commit u) d r k a = both (commit u) refl a
   foreign-stays (abort u) d r k a = let i = here n some s b v (abort u) refl a in through true s _ _ _ n After (abort-outcome s u) a (i .size)
       (λ h c. abort-stays n some s b i h u x (unwritten i u d) (abort-facts s n u c))
-  foreign-stays (lockRead u p) d r k a = through true s _ _ _ n After (lock-read-outcome s u p) a (size n some s b v (lockRead u p) refl a) (λ h c. (refl, refl))
-  foreign-stays (lockWrite u p) d r k a = through true s _ _ _ n After (lock-write-outcome s u p) a (size n some s b v (lockWrite u p) refl a) (λ h c. (refl, refl))
-  foreign-stays (read u y buffer) d r k a = through (eqb (length buffer) slotWords) s _ _ _ n After (read-outcome s u y buffer) a (size n some s b v (read u y buffer) refl a) (λ h c. (refl, refl))
+  foreign-stays (lockRead u p) d r k a = both (lockRead u p) refl a
+  foreign-stays (lockWrite u p) d r k a = both (lockWrite u p) refl a
+  foreign-stays (read u y buffer) d r k a = both (read u y buffer) refl a
   foreign-stays (create u y) d r k a = let i = here n some s b v (create u y) refl a in through true s _ _ _ n After (create-outcome s u y) a (i .size)
       (λ h c. let f = create-facts s n u y c in
       (occupy-view n (s .received) (h .sized .received-len) y (f .object .low) (f .object .top) x ∙ rw (other-object i u y d (f .txn) (f .object .page) (f .lock)), refl))
@@ -221,10 +234,10 @@ module _ (n : ℕ) (some : 1 ≤ n) (s : Areas) (b : Book) (v : Inv3 n s b) (l :
   foreign-stays (flush u p image) d r k a = let i = here n some s b v (flush u p image) refl a in through (eqb (length image) pageWords) s _ _ _ n After (flush-outcome s u p image) a (i .size)
       (λ h c. let f = flush-facts s n u p image c in
       (refl, copied-view n (s .received) (s .copies) p (h .sized .received-len) (h .sized .copies-len) (f .page) x ∙ rw (elsewhere i u p d (f .txn) (f .page) (f .lock)) refl))
-  foreign-stays force d r k a = through true s _ _ _ n After (force-outcome s) a (size n some s b v force refl a) (λ h c. (refl, refl))
-  foreign-stays (store p) d r k a = through true s _ _ _ n After (store-outcome s p) a (size n some s b v (store p) refl a) (λ h c. (refl, refl))
-  foreign-stays empty d r k a = through true s _ _ _ n After (empty-outcome s) a (size n some s b v empty refl a) (λ h c. (refl, refl))
-  foreign-stays pass d r k a = through true s _ _ _ n After (pass-outcome s) a (size n some s b v pass refl a) (λ h c. (refl, refl))
+  foreign-stays force d r k a = both force refl a
+  foreign-stays (store p) d r k a = both (store p) refl a
+  foreign-stays empty d r k a = both empty refl a
+  foreign-stays pass d r k a = both pass refl a
   foreign-stays step d r k a =
       let i = here n some s b v step refl a in
       let o = step-outcome s .ran a in
@@ -234,7 +247,6 @@ module _ (n : ℕ) (some : 1 ≤ n) (s : Areas) (b : Book) (v : Inv3 n s b) (l :
       step-stays n s b i (rw e at h′) t x (k refl) (step-facts s (o .passed) .one-runs) (callStep s) (step-way s n (callStep s) a z)
   foreign-stays reopen d r k a = clash refl r
   foreign-stays restep d r k a = clash refl r
-  foreign-stays (mark u m) d r k a = through true s _ _ _ n After (mark-outcome s u m) a (size n some s b v (mark u m) refl a) (λ h c. (refl, refl))
-  foreign-stays (back u m) d r k a = let i = here n some s b v (back u m) refl a in through true s _ _ _ n After (back-outcome s u m) a (i .size)
-      (λ h c. back-stays n some s b i h u x (unwritten i u d) m (back-facts s n u m c))
-  foreign-stays (look q) d r k a = rw (look-keeps s q) (refl, refl)
+  foreign-stays (mark u m) d r k a = both (mark u m) refl a
+  foreign-stays (back u m) d r k a = back-leaves n some s b v u m a x (unwritten (here n some s b v (back u m) refl a) u d)
+  foreign-stays (look q) d r k a = both (look q) refl a
