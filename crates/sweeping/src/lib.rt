@@ -63,7 +63,8 @@ fn sweep_apply(
     bits::slots_set(m)
 }
 
-// A sweeping step of the pass record's page. Answers how many slots it frees.
+// A sweeping step of the pass record's page: the tests in the paper's order, 4.3 and 4.5 (freed_map), then room for the record that 4.4 asks
+// for, then the slots are freed. Answers how many.
 pub fn sweep_step(
     copies: &mut [u32],
     received: &mut [u32],
