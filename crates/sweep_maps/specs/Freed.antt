@@ -33,13 +33,14 @@ pub freed-in : (s c r g k w : List ℕ) (n p : ℕ) → freedIn c w n p ≡ free
 unfolding freedMap
 freed-in s c r g k w n p = refl
 
--- the ways out in the paper's order: u is what the tables tell
+-- the ways out
+pub lock-not-granted : (c w : List ℕ) (n p : ℕ) → locked w n p ≡ true → 0 ≡ freedIn c w n p
+lock-not-granted c w n p h = sym (freed-skipped (areas [] c [] [] [] w) n p h)
+
+-- u is what the tables tell
 module _ (c w : List ℕ) (n p u : ℕ) (e : u ≡ unmarkedMap w n p) where
   pub nothing-to-free : u ≡ 0 → 0 ≡ freedIn c w n p
   nothing-to-free z = sym (freed-none (areas [] c [] [] [] w) n p (sym e ∙ z))
-
-  pub lock-not-granted : locked w n p ≡ true → 0 ≡ freedIn c w n p
-  lock-not-granted h = sym (freed-skipped (areas [] c [] [] [] w) n p h)
 
   pub page-read : mapAt c p ≤ mapTop → locked w n p ≡ false → bitAnd (mapAt c p) u ≡ freedIn c w n p
   unfolding unmarkedMap sweepMap

@@ -8,7 +8,7 @@ returns : tie.Need-returns
 returns c = nothing-to-free _ _ _ _ _ (c .before .unmarked-map .ensures) (c .if1 .taken)
 
 returns-2 : tie.Need-returns-2
-returns-2 c = lock-not-granted _ _ _ _ _ (c .before .before .before .unmarked-map .ensures) (sym (c .before .locked .ensures) ∙ c .if2 .taken)
+returns-2 c = lock-not-granted _ _ _ _ (sym (c .before .locked .ensures) ∙ c .if2 .taken)
 
 returns-3 : tie.Need-returns-3
 returns-3 c = page-read _ _ _ _ _ (c .before .before .before .before .unmarked-map .ensures) (c .before .before .before .before .before .before .before .pre .3) (sym (c .before .before .locked .ensures) ∙ c .before .if2 .left)
