@@ -1,11 +1,10 @@
 // One sweeping step: the slots that it frees, room for its record, and the pages, the log and the pass record after it.
 ghost use mathlib.Core.Path.{_≡_};
 ghost use mathlib.Core.List.{List, []};
-ghost use Prim.Native.Nat.{ℕ, _+_, _*_, _^_, _<_, _≤_};
+ghost use Prim.Native.Nat.{ℕ, _+_, _*_, _<_, _≤_};
 ghost use lib.ListN.{length, getD};
-ghost use Rattle.words.specs.Tests.{if};
 ghost use Rattle.words.specs.Bits.{slotsSet};
-ghost use Rattle.pages.specs.Geometry.{slotCount, pageWords, maxPages, mapTop, pageAt};
+ghost use Rattle.pages.specs.Geometry.{pageWords, maxPages, mapTop, pageAt};
 ghost use Rattle.pages.specs.Objects.{mapAt};
 ghost use Rattle.records.specs.Records.{recordWords, maxRecords};
 ghost use Rattle.areas.specs.Answers.{verdict};
@@ -14,66 +13,13 @@ ghost use Rattle.areas.specs.Layout.{HasTables, HasUndoing};
 ghost use Rattle.calls.specs.Pass as spec;
 ghost use Rattle.log_ops.specs.Logs.{Kept};
 ghost use Rattle.pass_record.specs.Step.{passOf};
-ghost use Rattle.sweeping.specs.Sweeps.{unmarkedMap, sweptAreas};
+ghost use Rattle.sweeping.specs.Sweeps.{sweptAreas};
 use areas::Answer;
 use areas::Check;
 use areas::Refusal;
-use areas::layout;
 use bit_ops::bits;
 use page_ops::change;
-use pages::PAGE_WORDS;
-use pages::SLOTS;
 use pass_record::Pass;
-
-// Whether slot s of page p is white and has no COT entry.
-fn unmarked(work: &[u32], n: usize, p: usize, s: usize) -> bool
-    requires { ⌜ HasTables (now work) n × (p < n) × (s < slotCount) ⌝ }
-    ensures { λ r. ⌜ r ≡ spec.unmarked (now (work .entry)) n p s ⌝ }
-{
-    let o = 1 + SLOTS * p + s;
-    let colour = work[layout::colour_at(n, o)];
-    let created = work[layout::created_at(n, o)];
-    (colour == layout::WHITE) & (created == 0)
-}
-
-// Slot s as a map, if it is chosen.
-fn slot_bit(chosen: bool, s: usize) -> u32
-    requires { ⌜ s < 32 ⌝ }
-    ensures { λ r. ⌜ r ≡ if chosen (2 ^ s) 0 ⌝ }
-{
-    if chosen { bits::mask_of(s) } else { 0 }
-}
-
-// The unmarked slots of page p.
-fn unmarked_map(work: &[u32], n: usize, p: usize) -> u32
-    requires { ⌜ HasTables (now work) n × (p < n) ⌝ }
-    ensures { λ r. ⌜ r ≡ unmarkedMap (now (work .entry)) n p ⌝ }
-{
-    let mut m: u32 = 0;
-    for s in 0..SLOTS {
-        m += slot_bit(unmarked(work, n, p, s), s);
-    }
-    m
-}
-
-// Whether anyone has a lock for writing on page p.
-fn locked(work: &[u32], n: usize, p: usize) -> bool
-    requires { ⌜ HasTables (now work) n × (p < n) ⌝ }
-    ensures { λ r. ⌜ r ≡ spec.locked (now (work .entry)) n p ⌝ }
-{
-    work[layout::writers_at(n, p)] != 0
-}
-
-// The slots that the step frees: none of a page that is being written, else those occupied in the copies and unmarked.
-fn freed_map(copies: &[u32], work: &[u32], n: usize, p: usize) -> u32
-    requires { ⌜ HasTables (now work) n × (p < n) × (pageAt p < length (now copies)) × (mapAt (now copies) p ≤ mapTop) ⌝ }
-    ensures { λ r. ⌜ r ≡ spec.freedMap (areas [] (now (copies .entry)) [] [] [] (now (work .entry))) n p ⌝ }
-{
-    if locked(work, n, p) {
-        return 0;
-    }
-    copies[PAGE_WORDS * p] & unmarked_map(work, n, p)
-}
 
 // Refusal 11: no room for the record of a step that frees the slots of m.
 fn sweep_check(log: &[u32], counts: &[u32], work: &[u32], n: usize, m: u32) -> Check
@@ -117,7 +63,8 @@ fn sweep_apply(
     bits::slots_set(m)
 }
 
-// A sweeping step of the pass record's page. Answers how many slots it frees.
+// A sweeping step of the pass record's page: the tests in the paper's order, 4.3 and 4.5 (freed_map), then room for the record that 4.4 asks
+// for, then the slots are freed. Answers how many.
 pub fn sweep_step(
     copies: &mut [u32],
     received: &mut [u32],
@@ -131,7 +78,7 @@ pub fn sweep_step(
     requires { ⌜ Kept (now log) (now counts) × (length (now log) ≤ recordWords * maxRecords) ⌝ }
     ensures { λ r. ⌜ ((s : List ℕ) → out r s (now (copies .exit)) (now (received .exit)) (now (log .exit)) (now (counts .exit)) (now (work .exit)) ≡ spec.swept (areas s (now (copies .entry)) (now (received .entry)) (now (log .entry)) (now (counts .entry)) (now (work .entry))) n) ⌝ }
 {
-    let m = freed_map(copies, work, n, pass.page as usize);
+    let m = sweep_maps::freed_map(copies, work, n, pass.page as usize);
     let k = sweep_check(log, counts, work, n, m);
     match k {
         Check::Refuse(x) => Answer::Refused(x),

@@ -245,6 +245,13 @@ fn passes(base: &Base, list: &mut Vec<Case>) {
     }
     add(list, "pass_step (sweep)", 0, &state, Call::PassStep);
     add(list, "pass_step (sweep)", 1, &damaged(&state), Call::PassStep);
+    // The actor writes page 0.
+    let mut written = base.acting.clone();
+    accept(written.start_pass());
+    while written.work[PHASE] == MARKING {
+        accept(written.pass_step());
+    }
+    add(list, "pass_step (skip)", 0, &written, Call::PassStep);
 }
 
 fn reopening(base: &Base, list: &mut Vec<Case>) {

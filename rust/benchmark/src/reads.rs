@@ -5,7 +5,7 @@ use crate::report::{duration, head, line, Table};
 /// By the name of its case: what the call looks at, what it writes, and which sentences of the definition need
 /// it. A record has 6 words, of which a walk for what is left looks at the transaction; where it is one that is
 /// walked for, at the kind too, and at the record's undoing word.
-const CALLS: [(&str, &str, &str, &str); 21] = [
+const CALLS: [(&str, &str, &str, &str); 22] = [
     (
         "begin",
         "3 words; 1 to 3 × R; 16 × P masks",
@@ -101,10 +101,17 @@ const CALLS: [(&str, &str, &str, &str); 21] = [
     ("pass_step (turn)", "4 words; 16 × P", "3 words", "2, 4. No object is grey"),
     (
         "pass_step (sweep)",
-        "7 words; 16 colours, 16 masks; where it frees 2 words, 1 to 3 × R and 2 × 129",
+        "6 words; 16 colours, 16 masks; where it frees 2 words, 1 to 3 × R and 2 × 129",
         "3 words; where it frees 2 × 129, a record and the count",
-        "2, 4. Of a page without locks all that is occupied, white and not in the COT is freed, in copy and \
+        "2, 4. Of a page that nobody writes all that is occupied, white and not in the COT is freed, in copy and \
          received page; 11: one record must fit beyond what is reserved",
+    ),
+    (
+        "pass_step (skip)",
+        "5 words; 16 colours, 16 masks",
+        "3 words",
+        "2, 4. Someone writes the page. By the paper's order its lock is tried where its colours and its COT leave \
+         something to free, and the page is read after it",
     ),
     (
         "reopen_step",

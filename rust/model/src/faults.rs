@@ -3,18 +3,22 @@
 
 macro_rules! faults {
     (calls: $( $name:ident : $what:literal, )*;
+     sweeps: $( $of_sweeps:ident : $what_of_sweeps:literal, )*;
      whole: $( $of_whole:ident : $what_of_whole:literal, )*;
      columns: $( $of_columns:ident : $what_of_columns:literal, )*) => {
         #[derive(Clone, Copy, PartialEq, Eq, Debug)]
         pub enum Fault {
             None,
             $( $name, )*
+            $( $of_sweeps, )*
             $( $of_whole, )*
             $( $of_columns, )*
         }
 
         /// Every fault of the calls with what it does wrong.
         pub const FAULTS: &[(Fault, &str)] = &[ $( (Fault::$name, $what), )* ];
+        /// .. of the sweeping step in the paper's order.
+        pub const SWEEP_FAULTS: &[(Fault, &str)] = &[ $( (Fault::$of_sweeps, $what_of_sweeps), )* ];
         /// .. and of `whole`.
         pub const WHOLE_FAULTS: &[(Fault, &str)] = &[ $( (Fault::$of_whole, $what_of_whole), )* ];
         /// .. and of `to_columns` and `from_columns`.
@@ -300,6 +304,45 @@ faults! {
     MapAboveRangeRefused: "DECISIONS 83: an image with a map above 65535 is refused with 9",
     MapAboveRangeIsOne: "DECISIONS 83: an image with a map above 65535 is refused with 1",
     MapAboveRangeIsUnsound: "DECISIONS 83: an image with a map above 65535 is refused with 14",
+    ; sweeps:
+    // document 02, L7: colours and COT
+    GreyAreFreed: "grey objects are freed as white ones are",
+    FlaggedCotAlone: "only a flagged COT entry protects",
+    CotOfActiveAlone: "a COT entry of a transaction that is not active does not protect, unless flagged",
+    CotSparesPage: "a COT entry protects all objects of its page",
+    UnmarkedOfNextPage: "colours and COT are those of the next page",
+    SweepOverlooksSlotFifteen: "the colour and the COT of slot 15 are not looked at: it is never freed",
+    // .. nothing to free
+    NothingToFreeStays: "a page with nothing to free is not left",
+    NothingToFreeIsNoStep: "a page with nothing to free does not count as a step",
+    NothingToFreeEndsPass: "a page with nothing to free ends the pass",
+    NothingToFreeTellsSlots: "of a page with nothing to free the value counts the slots of its copy",
+    NothingToFreeClearsPage: "of a page with nothing to free all slots of its copy are freed",
+    NothingToFreeNeedsRoom: "a page with nothing to free needs room",
+    NothingToFreeByReceived: "nothing to free is told by the slots that the received page has",
+    NothingToFreeOverlooksSlotZero: "nothing to free is told by slots 1 to 15",
+    NothingToFreeOverlooksSlotFifteen: "nothing to free is told by slots 0 to 14",
+    // .. the lock
+    LockOfNextPage: "the lock is that of the next page",
+    LockedPageStays: "a locked page is not left",
+    LockedPageEndsPass: "a locked page ends the pass",
+    LockedPageTellsGarbage: "of a locked page the value counts the slots that would be freed",
+    LockedPageIsCleared: "of a locked page the white slots without a COT entry are freed",
+    // .. the page
+    NothingThereStays: "a page whose white slots are all free is not left",
+    NothingFreedIsRecorded: "a page of which nothing is freed has a sweep record too, where there is room",
+    FreeSlotsAreFreed: "white slots without a COT entry are recorded and counted, free ones too",
+    FreeSlotsAreRecorded: "the record has the free slots too",
+    FreeSlotsAreCounted: "the value counts the free slots too",
+    FreeSlotsAreFreedInReceived: "slots that are free in the copy are freed in the received page too",
+    SweepUsesReserve: "a sweep takes records that transactions have reserved",
+    RefusedSweepMovesOn: "a step refused for log room goes on to the next page",
+    RefusedSweepFrees: "a step refused for log room has freed its slots",
+    // .. and its other readings
+    RoomBeforeLock: "DECISIONS 86: a locked page with something to free needs room",
+    RoomBeforeMap: "DECISIONS 86: a page whose white slots are all free needs room",
+    DeadPageDeallocated: "DECISIONS 86: a page without live objects is deallocated unread, with all sixteen slots",
+    UnreadPagesUnchecked: "DECISIONS 86: refusal 1 looks at no pages where a step leaves its page unread",
     ; whole:
     WholeTrustsRoot: "the root is taken for occupied",
     WholeLooksAtRootAlone: "the root alone is looked at",

@@ -1,4 +1,4 @@
-//! Document 01's page server and collector, and document 02's L1 to L6, over the same lent words as
+//! Document 01's page server and collector, and document 02's L1 to L7, over the same lent words as
 //! the proved library.
 //!
 //! Written from documents 01 and 02, docs/LAYOUT.md and docs/DECISIONS.md, not from the library's source.
@@ -15,12 +15,13 @@ mod readers;
 pub mod recover;
 mod share;
 pub mod sound;
+mod sweep;
 mod whole;
 
 pub use columns::{from_columns, to_columns};
 pub use faults::Fault;
 use layout::*;
-use recover::{free_map, recovered, take_effect};
+use recover::{recovered, take_effect};
 use sound::in_range;
 pub use whole::whole;
 
@@ -138,7 +139,7 @@ impl Model {
     }
 
     /// Refusal 11: `need` records beyond used and reserved.
-    fn room(&self, need: usize) -> Result<(), u32> {
+    pub fn room(&self, need: usize) -> Result<(), u32> {
         refuse(11, self.areas.received_count() + self.reserved() + need > self.areas.records())
     }
 
@@ -572,7 +573,10 @@ impl Model {
 
     /// "One pass step advances the pass record by one object or one page."
     pub fn pass_step(&mut self) -> Answer {
-        self.ready()?;
+        match self.fault {
+            Fault::UnreadPagesUnchecked => self.ready_if_read()?,
+            _ => self.ready()?,
+        }
         match self.areas.work[PHASE] {
             NO_PASS => Err(4.into()),
             MARKING => self.marking_step(),
@@ -634,101 +638,6 @@ impl Model {
             }
         }
         *self.areas.object_table(Table::Colours, object) = BLACK;
-    }
-
-    /// "Sweeping, page 0 upward": "a page is skipped only if someone has it write-locked" (document
-    /// 02, L6); "otherwise its occupied, white objects without a COT entry are freed in copy and
-    /// received page, with one sweep record if there are any; its answer counts the slots set in the
-    /// map. After page P - 1 the pass is over."
-    fn sweeping_step(&mut self) -> Answer {
-        let page = self.areas.work[PASS_PAGE] as usize;
-        let skipped = self.skipped(page);
-        let map = if skipped { 0 } else { self.garbage(page) };
-        if map != 0 || self.has(Fault::SweepAlwaysNeedsRoom) {
-            if self.has(Fault::RefusedSweepIsStep) && self.room(1).is_err() {
-                self.count_step();
-            }
-            self.room(1)?;
-        }
-        if map != 0 {
-            self.free_garbage(page, map);
-        }
-        let counts = match self.fault {
-            Fault::SkippedPageIsNoStep => !skipped,
-            Fault::NothingFreedIsNoStep => map != 0 || skipped,
-            _ => true,
-        };
-        if counts {
-            self.count_step();
-        }
-        self.leave_page(page);
-        let freed = map.count_ones();
-        Ok(if self.has(Fault::FreedCountUnlikeMap) && freed > 1 { freed - 1 } else { freed })
-    }
-
-    /// "freed in copy and received page, with one sweep record"
-    fn free_garbage(&mut self, page: usize, map: u32) {
-        let record = [7, 0, page as u32, 0, 0, map];
-        let read = self.areas.get(Table::Readers, page) != 0;
-        if self.has(Fault::SweepsWithoutRecord) || (read && self.has(Fault::ReadPageSweptWithoutRecord)) {
-            take_effect(&mut self.areas.received, record);
-        } else if read && self.has(Fault::ReadPageSweptInCopyAlone) {
-            self.append(record);
-        } else {
-            self.receive(record);
-        }
-        let copy_stays = match self.fault {
-            Fault::SweepLeavesCopies => true,
-            Fault::ReadPageSweptInReceivedAlone => read,
-            _ => false,
-        };
-        if !copy_stays {
-            free_map(&mut self.areas.copies, page, map);
-        }
-        self.disturb_readers(page, map);
-    }
-
-    /// To the next page, or out of the pass.
-    fn leave_page(&mut self, page: usize) {
-        let last = match self.fault {
-            Fault::PassOverEarly => self.areas.pages().saturating_sub(2),
-            _ => self.areas.pages() - 1,
-        };
-        if page >= last {
-            self.areas.work[PHASE] = NO_PASS;
-            self.areas.work[PASS_PAGE] = 0;
-            if !self.has(Fault::EndKeepsStepNumber) {
-                self.areas.work[PASS_STEP] = 0;
-            }
-            if self.has(Fault::PassEndWhitens) {
-                self.areas.table(Table::Colours).fill(WHITE);
-            }
-        } else {
-            self.areas.work[PASS_PAGE] += 1;
-        }
-    }
-
-    /// The map of the page's objects that the sweep frees: occupied in the copies, white, without
-    /// a COT entry (DECISIONS 12).
-    fn garbage(&self, page: usize) -> u32 {
-        if self.has(Fault::FreesNothing) {
-            return 0;
-        }
-        let freed = |slot: &usize| {
-            let object = object_at(page, *slot);
-            let created = match self.fault {
-                Fault::SweepIgnoresCot => 0,
-                Fault::SweepIgnoresFlaggedCot => self.areas.by_object(Table::Created, object) & !FLAG,
-                _ => self.areas.by_object(Table::Created, object),
-            };
-            let shown = if self.has(Fault::SweepByReceived) { &self.areas.received } else { &self.areas.copies };
-            occupied(shown, object)
-                && !(self.has(Fault::WhiteRootSpared) && object == ROOT)
-                && !(self.has(Fault::KnownAreSpared) && self.areas.by_object(Table::Known, object) != 0)
-                && self.areas.by_object(Table::Colours, object) == WHITE
-                && created == 0
-        };
-        (0..SLOTS).filter(freed).map(|slot| bit(slot as u32)).sum()
     }
 
     /// The step number, up to the bound that docs/LAYOUT.md gives it (DECISIONS 35).

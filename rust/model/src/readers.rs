@@ -8,6 +8,7 @@ impl Model {
     /// "Now a page is skipped only if someone has it write-locked." A bit is a lock, active or not
     /// (DECISIONS 83).
     pub(crate) fn skipped(&self, page: usize) -> bool {
+        let page = self.page_or_next(page, Fault::LockOfNextPage);
         let [readers, writers] = [Table::Readers, Table::Writers].map(|table| self.areas.get(table, page));
         0 != match self.fault {
             Fault::ReadersHoldUpSweeping => readers | writers,

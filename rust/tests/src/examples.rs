@@ -1,6 +1,6 @@
 //! Document 01's fourteen examples of the refusal table, its bench input and its cases on L, each
 //! with the answers that the document gives; and the examples of chains, of holders, of marks, of
-//! passes and of their shares, of readers, and of a page by columns.
+//! passes and of their shares, of readers, of the sweeping step's order, and of a page by columns.
 
 use calls::Call::*;
 use model::layout::*;
@@ -14,6 +14,7 @@ use crate::readers;
 use crate::run::*;
 use crate::shares;
 use crate::sides::Kind;
+use crate::sweeps;
 use crate::turns;
 
 /// An action with its answer, number and value (0,0 for a poke or a cut), and, where the example tells it, every word
@@ -153,7 +154,7 @@ pub fn run(left: Kind, right: Kind) -> Result<u64, String> {
     let mut calls = 0;
     let own = [refusals(), room(), vec![bench()]];
     let requests = [chains::examples(), holders::examples(), marks::examples()];
-    let passes = [passes::examples(), shares::examples(), readers::examples()];
+    let passes = [passes::examples(), shares::examples(), readers::examples(), sweeps::examples()];
     for Example { name, pages, records, steps } in own.into_iter().chain(requests).chain(passes).flatten() {
         let mut pair = Pair::new(left, right, pages, records);
         for step in [ok(Format, 0)].iter().chain(&steps) {

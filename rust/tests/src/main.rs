@@ -5,12 +5,13 @@
 //!   compare random  [--seed N] [--calls N] [--large]
 //!   compare whole   [--seed N] [--calls N]
 //!   compare columns [--seed N] [--calls N]
+//!   compare orders  [--seed N] [--calls N]
 //!   compare open    [--seed N] [--calls N]
 //!   compare power   [--seed N] [--calls N] [--write FILE]
 //!   compare show FAULT [--seed N] [--calls N]
 //!   compare oracle PROGRAM [--seed N] [--calls N] [--large]
 //!
-//! Exit status 0 where nothing differs (power: where every fault is noticed), else 1.
+//! Exit status 0 where nothing differs (power: and every fault is noticed), else 1.
 
 mod actions;
 mod chains;
@@ -24,6 +25,7 @@ mod images;
 mod marks;
 mod open;
 mod oracle;
+mod orders;
 mod passes;
 mod power;
 mod random;
@@ -34,6 +36,7 @@ mod run;
 mod shares;
 mod sides;
 mod steps;
+mod sweeps;
 mod tablets;
 mod turns;
 mod whole;
@@ -90,6 +93,7 @@ fn main() {
         "random" => run_random(&options),
         "whole" => whole::run(options.seed, options.calls),
         "columns" => columns::run(options.seed, options.calls),
+        "orders" => orders::run(options.seed, options.calls),
         "open" => open::run(options.seed, options.calls),
         "power" => power::run(options.seed, options.calls, options.write.as_deref()),
         "show" => power::show(&options.program.unwrap_or_else(usage), options.seed, options.calls),
@@ -103,7 +107,7 @@ fn main() {
 }
 
 fn usage<T>() -> T {
-    eprintln!("usage: compare examples | random | whole | columns | open | power | show FAULT | oracle PROGRAM [--seed N] [--calls N] [--large] [--write FILE]");
+    eprintln!("usage: compare examples | random | whole | columns | orders | open | power | show FAULT | oracle PROGRAM [--seed N] [--calls N] [--large] [--write FILE]");
     exit(2)
 }
 

@@ -2,13 +2,13 @@
 
 use std::fmt::Write;
 
-use model::faults::{COLUMN_FAULTS, FAULTS, WHOLE_FAULTS};
+use model::faults::{COLUMN_FAULTS, FAULTS, SWEEP_FAULTS, WHOLE_FAULTS};
 use model::Fault;
 
 use crate::generate::Scope;
 use crate::run::{report, Tally, Watch};
 use crate::sides::Kind;
-use crate::{columns, examples, random_lists, turns, whole};
+use crate::{columns, examples, orders, random_lists, turns, whole};
 
 /// The side that a fault is held against.
 const UNCHANGED: Kind = Kind::Library;
@@ -22,7 +22,7 @@ fn noticed(fault: Fault, seed: u64, calls: u64, scope: Scope) -> Option<u64> {
 /// Prints how the named fault shows: the shrunk list and the least state, or the page area, or the page.
 pub fn show(name: &str, seed: u64, calls: u64) -> bool {
     std::panic::set_hook(Box::new(|_| {}));
-    let mut faults = FAULTS.iter().chain(WHOLE_FAULTS).chain(COLUMN_FAULTS);
+    let mut faults = FAULTS.iter().chain(SWEEP_FAULTS).chain(WHOLE_FAULTS).chain(COLUMN_FAULTS);
     let Some(named) = faults.find(|(fault, _)| format!("{fault:?}") == name) else {
         println!("no fault is named {name}");
         return false;
@@ -71,20 +71,37 @@ impl Table {
     }
 }
 
+/// Whether the examples notice a fault of the calls; after how many calls lists of calls and cuts do, and all lists.
+fn by_lists(fault: Fault, seed: u64, calls: u64) -> (bool, [Option<u64>; 2]) {
+    let by_example = examples::run(UNCHANGED, Kind::Model(fault)).is_err();
+    let by_calls = noticed(fault, seed, calls / 10, Scope::Legal);
+    (by_example, [by_calls, noticed(fault, seed, calls, Scope::Small)])
+}
+
 /// The faults of the calls.
 fn calls_table(seed: u64, calls: u64) -> Table {
     let mut table = Table::default();
     for &(fault, what) in FAULTS {
-        let by_example = examples::run(UNCHANGED, Kind::Model(fault)).is_err();
-        let by_calls = noticed(fault, seed, calls / 10, Scope::Legal);
-        let by_all = noticed(fault, seed, calls, Scope::Small);
+        let (by_example, [by_calls, by_all]) = by_lists(fault, seed, calls);
         table.add(fault, by_all, &[what, yes(by_example), &shown(by_calls), &shown(by_all)]);
     }
     table
 }
 
+/// .. and of the sweeping step: the order that stood before must notice them too.
+fn sweeps_table(seed: u64, calls: u64) -> Table {
+    let mut table = Table::default();
+    for &(fault, what) in SWEEP_FAULTS {
+        let (by_example, [by_calls, by_all]) = by_lists(fault, seed, calls);
+        let by_order = orders::noticed(fault, seed, calls / 10);
+        let cells = [by_calls, by_all, by_order].map(shown);
+        table.add(fault, by_order.and(by_all), &[what, yes(by_example), &cells[0], &cells[1], &cells[2]]);
+    }
+    table
+}
+
 /// Faults that are put into both sides, so that the tally of steps alone can notice them.
-const TALLIED: [Fault; 9] = [
+const TALLIED: [Fault; 14] = [
     Fault::MarksAllInFirstStep,
     Fault::SkippedPageIsNoStep,
     Fault::PrunedScannedAgain,
@@ -94,10 +111,15 @@ const TALLIED: [Fault; 9] = [
     Fault::RefusedSweepIsStep,
     Fault::EndKeepsStepNumber,
     Fault::ReopenKeepsPass,
+    Fault::NothingToFreeStays,
+    Fault::NothingToFreeIsNoStep,
+    Fault::LockedPageStays,
+    Fault::NothingThereStays,
+    Fault::RefusedSweepMovesOn,
 ];
 
 /// .. so that what was read before alone can.
-const READ_AGAIN: [Fault; 13] = [
+const READ_AGAIN: [Fault; 14] = [
     Fault::ReadShowsZeros,
     Fault::CotDroppedAtCommitInPass,
     Fault::PrunedNoRoots,
@@ -111,6 +133,7 @@ const READ_AGAIN: [Fault; 13] = [
     Fault::BackGivesUpLocks,
     Fault::SweepDropsReadLocks,
     Fault::SweptPageIsForgotten,
+    Fault::UnmarkedOfNextPage,
 ];
 
 /// Faults in both sides, noticed by what is watched alone.
@@ -148,42 +171,50 @@ fn columns_table(seed: u64, pages: u64) -> Table {
     table
 }
 
+/// docs/TESTS.md with these tables.
+fn page(tables: &[Table; 6], seed: u64, calls: u64) -> String {
+    let [table, sweeps_table, tally_table, reads_table, whole_table, columns_table] =
+        tables.each_ref().map(|table| table.lines.trim_end());
+    format!(
+        include_str!("tests.md"),
+        seed = seed,
+        calls = calls,
+        tenth = calls / 10,
+        faults = FAULTS.len(),
+        table = table,
+        sweep_faults = SWEEP_FAULTS.len(),
+        sweeps_table = sweeps_table,
+        tallied = TALLIED.len(),
+        tally_table = tally_table,
+        read_again = READ_AGAIN.len(),
+        reads_table = reads_table,
+        whole_faults = WHOLE_FAULTS.len(),
+        whole_table = whole_table,
+        column_faults = COLUMN_FAULTS.len(),
+        columns_table = columns_table
+    )
+}
+
 pub fn run(seed: u64, calls: u64, write: Option<&str>) -> bool {
     std::panic::set_hook(Box::new(|_| {})); // a faulty model may panic: that is noticed too
     let tenth = calls / 10;
     let tables = [
         calls_table(seed, calls),
+        sweeps_table(seed, calls),
         watched_table(Watch::Steps, &TALLIED, seed, tenth),
         watched_table(Watch::Reads, &READ_AGAIN, seed, calls),
         whole_table(seed, tenth),
         columns_table(seed, tenth),
     ];
+    let same = orders::run(seed, tenth);
     let missed: usize = tables.iter().map(|table| table.missed).sum();
-    let faults = FAULTS.len() + WHOLE_FAULTS.len() + COLUMN_FAULTS.len();
+    let faults = FAULTS.len() + SWEEP_FAULTS.len() + WHOLE_FAULTS.len() + COLUMN_FAULTS.len();
     println!("power: {faults} faults against {}, {missed} not noticed", UNCHANGED.name());
     if let Some(path) = write {
-        let [table, tally_table, reads_table, whole_table, columns_table] =
-            tables.each_ref().map(|table| table.lines.trim_end());
-        let text = format!(
-            include_str!("tests.md"),
-            seed = seed,
-            faults = FAULTS.len(),
-            whole_faults = WHOLE_FAULTS.len(),
-            column_faults = COLUMN_FAULTS.len(),
-            calls = calls,
-            tenth = tenth,
-            table = table,
-            tallied = TALLIED.len(),
-            tally_table = tally_table,
-            read_again = READ_AGAIN.len(),
-            reads_table = reads_table,
-            whole_table = whole_table,
-            columns_table = columns_table
-        );
-        if let Err(error) = std::fs::write(path, text) {
+        if let Err(error) = std::fs::write(path, page(&tables, seed, calls)) {
             println!("{path}: {error}");
             return false;
         }
     }
-    missed == 0
+    missed == 0 && same
 }

@@ -19,7 +19,7 @@ fn with_records(name: &'static str, records: usize, steps: impl IntoIterator<Ite
 
 impl Step {
     /// .. after which this word of a page is the same in copy and received page.
-    fn in_both(self, at: usize, word: u32) -> Step {
+    pub fn in_both(self, at: usize, word: u32) -> Step {
         self.leaves(Area::Copies, at, &[word]).leaves(Area::Received, at, &[word])
     }
 

@@ -279,7 +279,8 @@ impl Pair {
         held.map_err(|what| format!("held: {what}"))
     }
 
-    fn compare_with(&self, other: &dyn Side) -> Result<(), String> {
+    /// Whether this one has the left one's words.
+    pub fn compare_with(&self, other: &dyn Side) -> Result<(), String> {
         for area in AREAS {
             let (left, right) = (self.left.area(area), other.area(area));
             if left == right {

@@ -1,8 +1,7 @@
 use Rattle.pass_record.specs.Step.{swept-one}
 use Rattle.log_ops.specs.Logs.{sweep-fits}
 use Rattle.store_ops.specs.Tables.{first-below}
-use Rattle.sweeping.specs.Maps.{none-set}
-use Rattle.sweeping.specs.Sweeps.{swept-none, swept-some}
+use Rattle.sweeping.specs.Sweeps.{none-set, swept-none, swept-some}
 use mathlib.Core.Path.{_∙_}
 use native.Mathlib.Omega.{arith}
 use borrow.Author.Needs.{needs}

@@ -1,5 +1,6 @@
 use Rattle.pass_record.specs.Step.{own-page}
-use Rattle.sweeping.specs.Sweeps.{freed-below, record-fits, step-full, step-sweeps}
+use Rattle.sweep_maps.specs.Freed.{freed-below}
+use Rattle.sweeping.specs.Sweeps.{record-fits, step-full, step-sweeps}
 use mathlib.Core.Path.{sym, _∙_}
 use native.Mathlib.Omega.{arith}
 use borrow.Author.Needs.{needs}

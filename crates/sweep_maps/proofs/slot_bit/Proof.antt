@@ -1,8 +1,8 @@
 use mathlib.Core.Path.{sym, _∙_}
 use Rattle.words.specs.Tests.{if-t, if-f}
 use borrow.Author.Needs.{needs}
-use Rattle.sweeping.proofs.slot_bit.Statement.{statement}
-use Rattle.sweeping.proofs.slot_bit.Tie as tie
+use Rattle.sweep_maps.proofs.slot_bit.Statement.{statement}
+use Rattle.sweep_maps.proofs.slot_bit.Tie as tie
 
 returns : tie.Need-returns
 returns c = c .mask-of .ensures ∙ sym (if-t _ _ _ (c .before .if1 .taken))

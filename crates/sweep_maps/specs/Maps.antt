@@ -7,8 +7,8 @@ use lib.Bits.{bitAnd, and-step, and-le-l}
 use lib.Pow.{pow-mono}
 use native.Mathlib.Nat.{min-le-left}
 use native.Mathlib.Omega.{arith}
-use Rattle.words.specs.Tests.{if, count, and-cong}
-use Rattle.words.specs.Bits.{bit, mapOf, slotsSet, bit-low, bit-next, bits-same, map-lt, map-bit, map-next}
+use Rattle.words.specs.Tests.{if, and-cong}
+use Rattle.words.specs.Bits.{bit, mapOf, bit-low, bit-next, bits-same, map-lt, map-bit, map-next}
 use Rattle.pages.specs.Geometry.{slotCount}
 
 -- the bits of two words' bitwise and
@@ -49,7 +49,3 @@ module _ (f : ℕ → Bool) (s x y : ℕ) (b : Bool) (h : x ≡ mapOf f s) (e : 
 
 pub map-end : (f : ℕ → Bool) (s k x : ℕ) → x ≡ mapOf f s → s ≡ k → x ≡ mapOf f k
 map-end f s k x h e = h ∙ ap (mapOf f) e
-
-pub none-set : (m : ℕ) → m ≡ 0 → 0 ≡ slotsSet m
-unfolding slotsSet count
-none-set m e = rw e

@@ -1,7 +1,7 @@
-use Rattle.sweeping.specs.Sweeps.{locked-at}
+use Rattle.sweep_maps.specs.Freed.{locked-at}
 use borrow.Author.Needs.{needs}
-use Rattle.sweeping.proofs.locked.Statement.{statement}
-use Rattle.sweeping.proofs.locked.Tie as tie
+use Rattle.sweep_maps.proofs.locked.Statement.{statement}
+use Rattle.sweep_maps.proofs.locked.Tie as tie
 
 returns : tie.Need-returns
 returns c = let a = c .before .before .before .args in locked-at (a .work .now) (a .n) (a .p) _ (c .before .writers-at .ensures)

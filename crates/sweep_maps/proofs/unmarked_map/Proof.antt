@@ -1,14 +1,14 @@
 use Prim.Native.Nat.{_-_, _≤_}
 use Rattle.calls.specs.Pass.{unmarked}
 use Rattle.pages.specs.Geometry.{slotCount}
-use Rattle.sweeping.specs.Maps.{slot-next, slot-fits, map-end}
-use Rattle.sweeping.specs.Sweeps.{unmarkedMap}
+use Rattle.sweep_maps.specs.Maps.{slot-next, slot-fits, map-end}
+use Rattle.sweep_order.specs.Order.{unmarkedMap}
 use Rattle.words.specs.Bits.{mapOf}
 use mathlib.Core.Path.{_≡_, refl}
 use native.Mathlib.Omega.{arith}
 use borrow.Author.Needs.{needs}
-use Rattle.sweeping.proofs.unmarked_map.Statement.{statement}
-use Rattle.sweeping.proofs.unmarked_map.Tie as tie
+use Rattle.sweep_maps.proofs.unmarked_map.Statement.{statement}
+use Rattle.sweep_maps.proofs.unmarked_map.Tie as tie
 
 abbrev Inv-loop : tie.InvT-loop
 Inv-loop work n p m₀ s₀ m s = (s ≤ slotCount) × (m ≡ mapOf (unmarked work n p) s)

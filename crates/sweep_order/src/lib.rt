@@ -1,0 +1,1 @@
+// The sweeping step in the paper's order. The definitions stand in specs/.
