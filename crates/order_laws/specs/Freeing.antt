@@ -1,5 +1,5 @@
 -- The slots that a sweeping step frees, by the tests in the paper's order. n is the number of pages, p the page. Assumes nothing.
-use Prim.Native.Nat.{ℕ, _<_}
+use Prim.Native.Nat.{ℕ}
 use mathlib.Core.Path.{_≡_, sym, ap, _∙_}
 use mathlib.Core.Bool.{Bool, true, false, _&&_}
 use mathlib.Core.List.{List}
@@ -11,10 +11,6 @@ use Rattle.areas.specs.Areas.{Areas}
 use Rattle.calls.specs.Pass.{locked, unmarked, sweepMap, freedMap}
 use Rattle.sweep_order.specs.Order.{unmarkedMap, occupiedOf}
 
--- maps of the same slots
-map-same : (f g : ℕ → Bool) (k : ℕ) → ((j : ℕ) → j < k → f j ≡ g j) → mapOf f k ≡ mapOf g k
-map-same f g k h = bits-same k (mapOf f k) (mapOf g k) (map-lt f k) (map-lt g k) (λ j l. map-bit f k j l ∙ h j l ∙ sym (map-bit g k j l))
-
 -- the page's slots among none
 none-of : (c : List ℕ) (p : ℕ) → occupiedOf c p 0 ≡ 0
 unfolding occupiedOf
@@ -25,9 +21,13 @@ module _ (s : Areas) (n p : ℕ) where
   -- the page's slots among those of the tables' map are those that pass both tests
   pub garbage-occupied : occupiedOf (s .copies) p (unmarkedMap (s .work) n p) ≡ sweepMap (s .copies) (s .work) n p
   unfolding sweepMap occupiedOf unmarkedMap
-  garbage-occupied = let u = mapOf (unmarked (s .work) n p) slotCount in
-      map-same (λ k. taken (s .copies) p k && bit u k) (λ k. taken (s .copies) p k && unmarked (s .work) n p k) slotCount
-      (λ j l. ap (λ (b : Bool). taken (s .copies) p j && b) (map-bit (unmarked (s .work) n p) slotCount j l))
+  garbage-occupied =
+      let u = mapOf (unmarked (s .work) n p) slotCount in
+      bits-same slotCount (mapOf (λ k. taken (s .copies) p k && bit u k) slotCount) (mapOf (λ k. taken (s .copies) p k && unmarked (s .work) n p k) slotCount)
+      (map-lt (λ k. taken (s .copies) p k && bit u k) slotCount) (map-lt (λ k. taken (s .copies) p k && unmarked (s .work) n p k) slotCount)
+      (λ j l. map-bit (λ k. taken (s .copies) p k && bit u k) slotCount j l
+      ∙ ap (λ (b : Bool). taken (s .copies) p j && b) (map-bit (unmarked (s .work) n p) slotCount j l)
+      ∙ sym (map-bit (λ k. taken (s .copies) p k && unmarked (s .work) n p k) slotCount j l))
 
   -- nothing to free, by the tables alone, whatever the page has
   none-garbage : unmarkedMap (s .work) n p ≡ 0 → sweepMap (s .copies) (s .work) n p ≡ 0

@@ -19,18 +19,17 @@ use Rattle.areas.specs.Entry.{called}
 use Rattle.calls.specs.Room.{sweepRoom, roomBeyond}
 use Rattle.calls.specs.Pass.{marked, locked, unmarked, advanced, sweptPage, stepTests}
 
--- 4.3: 'the sweeper checks the color map and COT entries for the page before reading the page from disk': the slots that are white and have
--- no COT entry
+-- colours and COT of the page: the slots that are white and have no COT entry
 unfoldable pub unmarkedMap : List ℕ → ℕ → ℕ → ℕ
 unmarkedMap w n p = mapOf (unmarked w n p) slotCount
-
--- 4.3: 'simply moves on to the next page', 4.5: 'simply skips the page'
-abbrev pub movedOn : Areas → ℕ → ℕ → Out
-movedOn s n p = done 0 (withWork s (advanced (s .work) n p))
 
 -- the page: the slots of u that it has occupied
 unfoldable pub occupiedOf : List ℕ → ℕ → ℕ → ℕ
 occupiedOf copies p u = mapOf (λ k. taken copies p k && bit u k) slotCount
+
+-- the page is left as it is, and the pass goes on
+abbrev pub movedOn : Areas → ℕ → ℕ → Out
+movedOn s n p = done 0 (withWork s (advanced (s .work) n p))
 
 -- 4.3: 'It reclaims any objects that have been left colored as garbage'; 4.4: 'have the sweeper log the color map for each page that it
 -- modifies', for which document 01 asks 1 record's room
@@ -38,21 +37,19 @@ unfoldable pub reclaimed : Areas → ℕ → ℕ → ℕ → Out
 reclaimed s n p m =
     checked (verdict (need 11 LogFull (roomBeyond s n sweepRoom) ∷ [])) s (done (slotsSet m) (withWork (sweptPage s p m) (advanced (s .work) n p)))
 
--- the page is read: m of its slots are garbage
-abbrev pub pageSwept : Areas → ℕ → ℕ → ℕ → Out
-pageSwept s n p m = if (eqb m 0) (movedOn s n p) (reclaimed s n p m)
-
--- 4.5: 'If the lock is not granted, then some transaction has a write lock on the page. In this case, the sweeper simply skips the page'
-abbrev pub lockTried : Areas → ℕ → ℕ → ℕ → Out
-lockTried s n p u = if (locked (s .work) n p) (movedOn s n p) (pageSwept s n p (occupiedOf (s .copies) p u))
-
--- 4.3: 'If the page has no garbage objects on it, then the sweeper simply moves on to the next page.'
-abbrev pub garbageSought : Areas → ℕ → ℕ → ℕ → Out
-garbageSought s n p u = if (eqb u 0) (movedOn s n p) (lockTried s n p u)
-
 -- a sweeping step
 unfoldable pub sweptInOrder : Areas → ℕ → Out
-sweptInOrder s n = let p = at (s .work) passPageAt in garbageSought s n p (unmarkedMap (s .work) n p)
+sweptInOrder s n =
+    let p = at (s .work) passPageAt in
+    let on = movedOn s n p in
+    -- 4.3: 'the sweeper checks the color map and COT entries for the page before reading the page from disk.'
+    let u = unmarkedMap (s .work) n p in
+    -- 4.3: 'If the page has no garbage objects on it, then the sweeper simply moves on to the next page.'
+    if (eqb u 0) on
+    -- 4.5: 'If the lock is not granted, then some transaction has a write lock on the page. In this case, the sweeper simply skips the page'
+    (if (locked (s .work) n p) on
+    -- the page: which of these slots it has occupied
+    (let m = occupiedOf (s .copies) p u in if (eqb m 0) on (reclaimed s n p m)))
 
 -- a pass step with it
 unfoldable pub stepInOrder : Areas → Out
