@@ -64,7 +64,7 @@ use Rattle.guarantees.proofs.Stable.{one-stable-store}
 use Rattle.guarantees.proofs.Through.{through}
 use Rattle.guarantees.proofs.Always.{Sure, as-storing, keep-sure}
 use Rattle.guarantees.proofs.Closing.{here, closed-after}
-use Rattle.guarantees.proofs.Untouched.{quiet-areas}
+use Rattle.guarantees.proofs.Untouched.{quiet, quiet-areas}
 use Rattle.guarantees.proofs.OwnLines.{Ref, fed-origin, OwnAt, OwnOf, OwnLine, seen-own, fed-own}
 
 -- an area's own numbers, by its words and by its objects
@@ -85,7 +85,7 @@ module _ (G : ℕ → ℕ → Type 0) (a : List ℕ) where
 pub zeros-own : (G : ℕ → ℕ → Type 0) (a : List ℕ) → ((x f : ℕ) → wordOf a x f ≡ 0) → OwnOf G (view a)
 zeros-own G a z = by-words G a (λ x f low l r e. absurd (let y = z x f in omega arith))
 
--- an object that is as one of another map, or has only zeros
+-- an object that is as another map has it
 same-own : (G : ℕ → ℕ → Type 0) (x : ℕ) (v w : Obj) → w ≡ v → OwnAt G x v → OwnAt G x w
 same-own G x v w e o = rw e o
 
@@ -170,23 +170,26 @@ module _ (g : List ℕ) (G H : ℕ → ℕ → Type 0) (up : (x f : ℕ) → G x
         same-own G x _ _ (restored-view (s .work) n t (a .received) (s .copies) (w .sized .received-len) (h .sized .copies-len) (f .txn) x)
         (mixed (λ y. locksOf (s .work) n .wr t (O.pageOf y)) (view (a .received)) (view (s .copies)) own (o .copies) x))
 
+    still : (c : Call) → quiet c ≡ true → accepted (perform s c .answer) ≡ true → Copied (perform s c .after)
+    still c q a = rw (quiet-areas n some s b v c q a .1) (o .copies)
+
     copies-after : (c : Call) → accepted (perform s c .answer) ≡ true → Copied (perform s c .after)
     unfolding perform created wordSet flushed appended backTo reopened pageStored reopeningOver
-    copies-after (begin t) a = rw (quiet-areas n some s b v (begin t) refl a .1) (o .copies)
-    copies-after (commit t) a = rw (quiet-areas n some s b v (commit t) refl a .1) (o .copies)
+    copies-after (begin t) a = still (begin t) refl a
+    copies-after (commit t) a = still (commit t) refl a
     copies-after (abort t) a = let i = here n some s b v (abort t) refl a in
         through true s _ _ _ n (λ z. OwnOf G (view (z .received)) → Copied z) (abort-outcome s t) a (i .size) (λ h k. aborted-own h i t (abort-facts s n t k)) (received-after (abort t) a)
-    copies-after (lockRead t p) a = rw (quiet-areas n some s b v (lockRead t p) refl a .1) (o .copies)
-    copies-after (lockWrite t p) a = rw (quiet-areas n some s b v (lockWrite t p) refl a .1) (o .copies)
-    copies-after (read t x buffer) a = rw (quiet-areas n some s b v (read t x buffer) refl a .1) (o .copies)
+    copies-after (lockRead t p) a = still (lockRead t p) refl a
+    copies-after (lockWrite t p) a = still (lockWrite t p) refl a
+    copies-after (read t x buffer) a = still (read t x buffer) refl a
     copies-after (create t x) a = through true s _ _ _ n Copied (create-outcome s t x) a (here n some s b v (create t x) refl a .size) (λ h k. o .copies)
     copies-after (setWord t x f w) a = through true s _ _ _ n Copied (set-outcome s t x f w) a (here n some s b v (setWord t x f w) refl a .size) (λ h k. o .copies)
     copies-after (flush t p image) a = through (eqb (length image) pageWords) s _ _ _ n Copied (flush-outcome s t p image) a (here n some s b v (flush t p image) refl a .size)
         (λ h k x. same-own G x _ _ (copied-view n (s .received) (s .copies) p (h .sized .received-len) (h .sized .copies-len) (flush-facts s n t p image k .page) x) (mixed (λ y. eqb (O.pageOf y) p) (view (s .received)) (view (s .copies)) (o .received) (o .copies) x))
-    copies-after force a = rw (quiet-areas n some s b v force refl a .1) (o .copies)
-    copies-after (store p) a = rw (quiet-areas n some s b v (store p) refl a .1) (o .copies)
-    copies-after empty a = rw (quiet-areas n some s b v empty refl a .1) (o .copies)
-    copies-after pass a = rw (quiet-areas n some s b v pass refl a .1) (o .copies)
+    copies-after force a = still force refl a
+    copies-after (store p) a = still (store p) refl a
+    copies-after empty a = still empty refl a
+    copies-after pass a = still pass refl a
     copies-after step a =
         let i = here n some s b v step refl a in
         let r = step-outcome s .ran a in
@@ -198,10 +201,10 @@ module _ (g : List ℕ) (G H : ℕ → ℕ → Type 0) (up : (x f : ℕ) → G x
     copies-after restep a = let k = as-storing n s b v a in let g = step-entered n some s b (k .0) (k .1) a .1 in by-bool (ltb (at (s .work) reopeningPageAt) n)
         (λ e. let d : callRestep s .after ≡ pageStored s (at (s .work) reopeningPageAt) = g ∙ rw e refl in rw d (o .copies))
         (λ e. let d : callRestep s .after ≡ reopeningOver s n = g ∙ rw e refl in rw d (o .copies))
-    copies-after (mark t m) a = rw (quiet-areas n some s b v (mark t m) refl a .1) (o .copies)
+    copies-after (mark t m) a = still (mark t m) refl a
     copies-after (back t m) a = let i = here n some s b v (back t m) refl a in
         through true s _ _ _ n Copied (back-outcome s t m) a (i .size) (λ h k. rw (Marks.gone n some s b i h t m (back-facts s n t m k) .copies) (o .copies))
-    copies-after (look q) a = rw (quiet-areas n some s b v (look q) refl a .1) (o .copies)
+    copies-after (look q) a = still (look q) refl a
 
     -- 'Each call .. makes at most one stable store': a page of the copies
     page-own : (z : Areas) (p : ℕ) → PageStored s z p → OwnOf H (view (z .stored))

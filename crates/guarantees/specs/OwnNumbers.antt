@@ -13,7 +13,7 @@ use Rattle.reach.specs.Reaching.{Refers}
 use Rattle.book.specs.Demand.{Event, Point, accepts, start}
 use Rattle.guarantees.specs.Points.{AtEvery, Always}
 
--- no object of the page area has its own number in a reference word
+-- no object of the page area, occupied or not, has its own number in a reference word
 abbrev pub NoneIn : List ℕ → Type 0
 NoneIn a = (o f : ℕ) → Refers a o f o → ⊥
 
