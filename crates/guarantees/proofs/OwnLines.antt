@@ -28,7 +28,7 @@ use Rattle.book_laws.proofs.Undoing.{strikes-newest, strikes-each}
 use Rattle.book_laws.proofs.GoingBack.{went-lines}
 use Rattle.book_laws.proofs.Soundness.{stop-each}
 
--- word f of object x is a reference word
+-- word f of object x is a reference word, of whatever page area (`ref-same`)
 abbrev pub Ref : ℕ → ℕ → Type 0
 Ref x f = isRef [] x f ≡ true
 
