@@ -1,4 +1,4 @@
-// Refusals 3 to 11 of a read, a create, a set and a flush.
+// What a read, a create, a set and a flush test, behind refusals 1 and 2.
 ghost use mathlib.Core.Path.{_≡_};
 ghost use mathlib.Core.Bool.{_&&_};
 ghost use mathlib.Core.List.{[]};
