@@ -13,7 +13,7 @@
  * does not overlap, its image or buffer neither with an area.
  *
  * A call answers  answer number * 2^32 + value : number 0 where accepted, else the number of the
- * refusal (1 to 17), with every buffer as it was. A refusal's value is 0, but that of 6, which is a
+ * refusal (1 to 18), with every buffer as it was. A refusal's value is 0, but that of 6, which is a
  * transaction that has the page: see the locks. Any words may be lent, but to the held calls.
  * docs/CALLING.md has the refusals, what to write to the disk and when, and names whole programs.
  */
@@ -106,6 +106,9 @@ uint64_t kophdaen_create(
     uint32_t *counts, size_t counts_words, uint32_t *work, size_t work_words,
     uint32_t t, uint32_t object);
 
+/* Into a reference word (field 0 to 3) go 0 and objects that t knows, but for the object itself: refused
+ * with 18, after 7 and before 11, also where the word has it already. Data words take any word. Value:
+ * the received count. */
 uint64_t kophdaen_set_word(
     const uint32_t *stored, size_t stored_words, const uint32_t *copies, size_t copies_words,
     uint32_t *received, size_t received_words, uint32_t *log, size_t log_words,

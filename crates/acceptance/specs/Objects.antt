@@ -19,7 +19,7 @@ use Rattle.areas.specs.Answers.{verdict, passed}
 use Rattle.areas.specs.Areas.{Areas, done, receivedCount, withWork}
 use Rattle.areas.specs.Layout.{knownAt}
 use Rattle.areas.specs.Tables.{has, isTxn, isActive, canRead, canWrite, knows}
-use Rattle.calls.specs.Objects.{readTests, learned, callRead, createTests, created, callCreate, mayWrite, setTests, wordSet, callSet, flushTests, flushed, callFlush}
+use Rattle.calls.specs.Objects.{readTests, learned, callRead, createTests, created, callCreate, mayWrite, namesItself, setTests, wordSet, callSet, flushTests, flushed, callFlush}
 use Rattle.acceptance.specs.Room.{Room, room-facts}
 use Rattle.acceptance.specs.Ran.{Outcome, outcome-done}
 
@@ -93,7 +93,7 @@ pub create-outcome : (s : Areas) (t o : ℕ) →
 unfolding callCreate
 create-outcome s t o = outcome-done _ _ _ _ _ _
 
--- 'A reference written must be 0 or known (this is A2, enforced).'
+-- 'A reference written must be 0 or known (this is A2, enforced).' Document 02, L8: and not the object itself
 pub record SetFacts (s : Areas) (n t o f v : ℕ) : Type 0 where
   pub txn : t < txnCount
   pub object : ObjectFacts n o
@@ -102,6 +102,7 @@ pub record SetFacts (s : Areas) (n t o f v : ℕ) : Type 0 where
   pub lock : canWrite (s .work) n t (pageOf o) ≡ true
   pub known : knows (s .work) n t o ≡ true
   pub may : isRef (s .received) o f ≡ true → (v ≡ 0) ⊎ (knows (s .work) n t v ≡ true)
+  pub other : namesItself (s .received) o f v ≡ false
   pub room : Room s n changeRoom
 
 may-cases : (ref : Bool) (v : ℕ) (known : Bool) → not ref || eqb v 0 || known ≡ true → ref ≡ true → (v ≡ 0) ⊎ (known ≡ true)
@@ -122,7 +123,8 @@ set-facts s n t o f v h =
       lock = passed _ 2 h;
       known = k .0;
       may = may-cases (isRef (s .received) o f) v (knows (s .work) n t v) (k .1);
-      room = room-facts s n changeRoom (passed _ 4 h);
+      other = not-true _ (passed _ 4 h);
+      room = room-facts s n changeRoom (passed _ 5 h);
     }
 
 pub set-outcome : (s : Areas) (t o f v : ℕ) →

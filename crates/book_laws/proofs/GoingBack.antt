@@ -42,7 +42,7 @@ module _ (t : ℕ) where
   abbrev forgetting : Book → (ℕ → Bool) → Book
   forgetting b f = record { origin = b .origin; lines = b .lines; stable = b .stable; begun = b .begun; running = b .running; known = put (b .known) t f; marked = b .marked; stage = b .stage }
 
-  went-lines : (k : ℕ) (b : Book) → goesBack k b t .lines ≡ undoneLines (b .running t) k (b .lines)
+  pub went-lines : (k : ℕ) (b : Book) → goesBack k b t .lines ≡ undoneLines (b .running t) k (b .lines)
   unfolding goesBack undoneLines
   went-lines zero b = refl
   went-lines (suc k) b = went-lines k (undoes b t)

@@ -1,47 +1,20 @@
 -- The sweep lines of a pass step: one for the page whose slots were released, none where the maps stay. Assumes nothing.
-use Prim.Native.Nat.{ℕ, zero, suc, _+_, _*_, _/_, _%_, _^_, _<_}
+use Prim.Native.Nat.{ℕ, zero, suc, _*_, _^_, _<_}
 use native.Mathlib.Omega.{arith}
 use native.Mathlib.Decide.{ℕ-discrete}
-use native.Mathlib.Nat.{pow-suc}
-use native.Mathlib.Numerals.{add-one}
-use mathlib.Core.Path.{_≡_, refl, sym, ap, _∙_, subst}
+use mathlib.Core.Path.{_≡_, refl, sym, ap, _∙_}
 use mathlib.Core.Bool.{Bool, true, false, not, _&&_}
 use mathlib.Core.List.{List, _∷_}
 use lib.ListN.{length}
-use lib.Dec.{eqb}
-use borrow.Author.Tests.{eqb-true, eqb-false, eq-eqb, ne-eqb, lt-ltb}
-use Rattle.words.specs.Tests.{if, by-bool}
-use Rattle.words.specs.Bits.{bit, mapOf, bit-low, bit-next, bit-none}
+use borrow.Author.Tests.{eq-eqb, ne-eqb, lt-ltb}
+use Rattle.words.specs.Tests.{by-bool}
+use Rattle.words.specs.Bits.{bit, bit-none, map-same, map-bits}
 use Rattle.pages.specs.Objects.{mapAt, taken, released}
 use Rattle.records.specs.Records.{sweepOf}
 use Rattle.machine_view.proofs.Slots.{within, released-occ}
 use Rattle.book.specs.Lines.{Line, line}
 use Rattle.book.specs.Feeding.{clearedSlots, sweepLines}
 use Rattle.pages.specs.Geometry.{pageWords, slotCount}
-
--- a map of a test, by its lowest bit and the rest; the map of a map's bits is the map
-map-same : (f g : ℕ → Bool) (n : ℕ) → ((k : ℕ) → k < n → f k ≡ g k) → mapOf f n ≡ mapOf g n
-unfolding mapOf
-map-same f g zero h = refl
-map-same f g (suc n) h = rw (h n (omega arith), map-same f g n (λ k l. h k (omega arith)))
-
-map-shift : (f : ℕ → Bool) (n : ℕ) → mapOf f (suc n) ≡ (if (f 0) 1 0) + 2 * mapOf (λ k. f (k + 1)) n
-unfolding mapOf
-map-shift f zero = by-bool (f 0) (λ e. rw e refl) (λ e. rw e refl)
-map-shift f (suc n) =
-    let h : mapOf f n + if (f n) (2 ^ n) 0 ≡ (if (f 0) 1 0) + 2 * mapOf (λ k. f (k + 1)) n = map-shift f n in
-    let e : f (suc n) ≡ f (n + 1) = ap f (sym (add-one n)) in
-    rw (e, pow-suc 2 n) (by-bool (f (n + 1)) (λ d. rw d (omega arith)) (λ d. rw d (omega arith)))
-
-pub map-bits : (k m : ℕ) → m < 2 ^ k → mapOf (bit m) k ≡ m
-unfolding mapOf
-map-bits zero m h = omega arith
-map-bits (suc k) m h =
-    let up : m < 2 ^ k * 2 = subst (λ (x : ℕ). m < x) (pow-suc 2 k) h in
-    let rest : mapOf (λ j. bit m (j + 1)) k ≡ m / 2 = map-same (λ j. bit m (j + 1)) (bit (m / 2)) k (λ j l. ap (bit m) (add-one j) ∙ bit-next m j) ∙ map-bits k (m / 2) (omega arith) in
-    map-shift (bit m) k ∙ rw (bit-low m, rest) (by-bool (eqb (m % 2) 1)
-    (λ e. rw e (let z = eqb-true (m % 2) 1 e in omega arith))
-    (λ e. rw e (let z = eqb-false (m % 2) 1 e in omega arith)))
 
 module _ (before after : List ℕ) where
   pub cleared-is : (p m : ℕ) → m < 2 ^ slotCount → ((s : ℕ) → s < slotCount → (taken before p s && not (taken after p s)) ≡ bit m s) → clearedSlots before after p ≡ m

@@ -84,10 +84,11 @@ filling =
     gives 12 (begin 3) ∷ gives 0 (lockWrite 3 0) ∷ gives 13 (create 3 2) ∷ gives 14 (setWord 3 1 1 2) ∷ gives 0 (flush 3 0 (image 3 0 2)) ∷ gives 15 (commit 3)
     ∷ asks (names 1 1 2) ∷ asks (leads 1 1 2) ∷ asks (names 17 0 2) ∷ asks (λ q. not (leads 17 0 2 q)) ∷ []
 
--- transaction 4 changes the root and does not end; transaction 2 ends, and its last record is not stable: seventeen are
+-- transaction 4 changes the root, which may not name itself (document 02, L8) but have its number as data, and does not end; transaction 2
+-- ends, and its last record is not stable: seventeen are
 abbrev pub forcing : List Scene
 forcing =
-    gives 16 (begin 4) ∷ gives 0 (lockWrite 4 0) ∷ gives 17 (setWord 4 1 2 1) ∷ gives 18 (commit 2)
+    gives 16 (begin 4) ∷ gives 0 (lockWrite 4 0) ∷ refuses 18 (setWord 4 1 2 1) ∷ gives 17 (setWord 4 1 4 1) ∷ gives 18 (commit 2)
     ∷ gives 1 force ∷ gives 2 force ∷ gives 3 force ∷ gives 4 force ∷ gives 5 force ∷ gives 6 force ∷ gives 7 force ∷ gives 8 force ∷ gives 9 force
     ∷ gives 10 force ∷ gives 11 force ∷ gives 12 force ∷ gives 13 force ∷ gives 14 force ∷ gives 15 force ∷ gives 16 force ∷ gives 17 force
     ∷ asks (linesAre (4 ∷ 3 ∷ 1 ∷ 4 ∷ 3 ∷ 2 ∷ 1 ∷ 7 ∷ 1 ∷ 4 ∷ 3 ∷ 1 ∷ 4 ∷ 3 ∷ 3 ∷ 2 ∷ 2 ∷ 1 ∷ [])) ∷ []
@@ -99,7 +100,7 @@ reopening =
     cut ∷ asks (linesAre (4 ∷ 3 ∷ 2 ∷ 1 ∷ 7 ∷ 4 ∷ 3 ∷ 1 ∷ 4 ∷ 3 ∷ 3 ∷ 2 ∷ 2 ∷ 1 ∷ []))
     ∷ gives 0 reopen ∷ gives 0 restep ∷ cut
     ∷ gives 0 reopen ∷ gives 0 restep ∷ gives 1 restep ∷ gives 2 restep
-    ∷ asks (names 1 1 2) ∷ asks (names 1 2 0) ∷ asks (names 17 0 2) ∷ asks (leads 1 1 2) ∷ asks (λ q. not (leads 17 0 2 q)) ∷ []
+    ∷ asks (names 1 1 2) ∷ asks (names 1 4 0) ∷ asks (names 17 0 2) ∷ asks (leads 1 1 2) ∷ asks (λ q. not (leads 17 0 2 q)) ∷ []
 
 -- the whole list
 abbrev pub run : List Scene

@@ -33,3 +33,6 @@ pub mod Untouched
 pub mod Restoring
 pub mod Readers
 pub mod Recall
+pub mod OwnLines
+pub mod OwnPages
+pub mod OwnNumbers

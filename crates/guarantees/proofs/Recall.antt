@@ -304,7 +304,7 @@ keep-recallable n some q l (call c) u j t x h = by-bool (accepts q c)
 keep-recallable n some q l power u j t x h = clash h refl
 
 -- an accepted read shows the object's words
-shows : (r : Answer) (v : ℕ) → r ≡ Done v → (words buffer : List ℕ) → ifAccepted r words buffer ≡ words
+pub shows : (r : Answer) (v : ℕ) → r ≡ Done v → (words buffer : List ℕ) → ifAccepted r words buffer ≡ words
 shows r v e words buffer = rw e
 
 module _ (n : ℕ) (q : Point) (l : Recalled) (z : Sure n q) (j : Recallable n q l) (t x : ℕ) (buffer : List ℕ) (fits : length buffer ≡ slotWords) (h : l .has t x ≡ true) where

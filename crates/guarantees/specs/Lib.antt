@@ -16,3 +16,4 @@ pub mod Readers
 pub mod Recall
 pub mod Steps
 pub mod Shares
+pub mod OwnNumbers

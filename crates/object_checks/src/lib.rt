@@ -1,4 +1,4 @@
-// Refusals 3 to 11 of a read, a create, a set and a flush.
+// What a read, a create, a set and a flush test, behind refusals 1 and 2.
 ghost use mathlib.Core.Path.{_≡_};
 ghost use mathlib.Core.Bool.{_&&_};
 ghost use mathlib.Core.List.{[]};
@@ -11,7 +11,7 @@ ghost use Rattle.areas.specs.Answers.{verdict};
 ghost use Rattle.areas.specs.Areas.{areas};
 ghost use Rattle.areas.specs.Layout.{HasTables, HasUndoing};
 ghost use Rattle.areas.specs.Tables.{isTxn};
-ghost use Rattle.calls.specs.Objects.{mayWrite, readTests, createTests, setTests, flushTests};
+ghost use Rattle.calls.specs.Objects.{mayWrite, namesItself, readTests, createTests, setTests, flushTests};
 ghost use Rattle.log_ops.specs.Logs.{Kept};
 use areas::Check;
 use areas::Refusal;
@@ -43,6 +43,13 @@ fn may_write(received: &[u32], work: &[u32], n: usize, t: u32, o: u32, f: u32, v
     ensures { λ r. ⌜ r ≡ mayWrite (areas [] [] (now (received .entry)) [] [] (now (work .entry))) n t o f v ⌝ }
 {
     !change::is_ref(received, o, f) | (v == 0) | store_ops::knows(work, n, t, v)
+}
+
+// Whether v, written into word f of object o, is a reference to o itself.
+fn names_itself(received: &[u32], o: u32, f: u32, v: u32) -> bool
+    ensures { λ r. ⌜ r ≡ namesItself (now (received .entry)) o f v ⌝ }
+{
+    change::is_ref(received, o, f) & (v == o)
 }
 
 // Whether t may read object o.
@@ -124,6 +131,9 @@ pub fn set_check(
     }
     if !(store_ops::knows(work, n, t, o) & may_write(received, work, n, t, o, f, v)) {
         return Check::Refuse(Refusal::Unknown);
+    }
+    if names_itself(received, o, f, v) {
+        return Check::Refuse(Refusal::SelfReference);
     }
     if !log_ops::room_beyond(log, counts, work, n, log_ops::CHANGE_ROOM) {
         return Check::Refuse(Refusal::LogFull);

@@ -4,7 +4,7 @@ use mathlib.Core.Path.{_≡_, sym, ap, _∙_}
 use mathlib.Core.Bool.{Bool, true, false, _&&_}
 use mathlib.Core.List.{List}
 use Rattle.words.specs.Tests.{if-t, if-f, by-bool, and-false}
-use Rattle.words.specs.Bits.{bit, mapOf, bit-none, bits-same, no-bits, map-lt, map-bit}
+use Rattle.words.specs.Bits.{bit, mapOf, bit-none, no-bits, map-lt, map-bit, map-same}
 use Rattle.pages.specs.Geometry.{slotCount}
 use Rattle.pages.specs.Objects.{taken}
 use Rattle.areas.specs.Areas.{Areas}
@@ -23,11 +23,8 @@ module _ (s : Areas) (n p : ℕ) where
   unfolding sweepMap occupiedOf unmarkedMap
   garbage-occupied =
       let u = mapOf (unmarked (s .work) n p) slotCount in
-      bits-same slotCount (mapOf (λ k. taken (s .copies) p k && bit u k) slotCount) (mapOf (λ k. taken (s .copies) p k && unmarked (s .work) n p k) slotCount)
-      (map-lt (λ k. taken (s .copies) p k && bit u k) slotCount) (map-lt (λ k. taken (s .copies) p k && unmarked (s .work) n p k) slotCount)
-      (λ j l. map-bit (λ k. taken (s .copies) p k && bit u k) slotCount j l
-      ∙ ap (λ (b : Bool). taken (s .copies) p j && b) (map-bit (unmarked (s .work) n p) slotCount j l)
-      ∙ sym (map-bit (λ k. taken (s .copies) p k && unmarked (s .work) n p k) slotCount j l))
+      map-same (λ k. taken (s .copies) p k && bit u k) (λ k. taken (s .copies) p k && unmarked (s .work) n p k) slotCount
+      (λ j l. ap (λ (b : Bool). taken (s .copies) p j && b) (map-bit (unmarked (s .work) n p) slotCount j l))
 
   -- nothing to free, by the tables alone, whatever the page has
   none-garbage : unmarkedMap (s .work) n p ≡ 0 → sweepMap (s .copies) (s .work) n p ≡ 0

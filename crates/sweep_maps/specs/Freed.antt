@@ -7,7 +7,7 @@ use lib.Dec.{eqb}
 use lib.Bits.{bitAnd}
 use native.Mathlib.Omega.{arith}
 use Rattle.words.specs.Tests.{by-bool}
-use Rattle.words.specs.Bits.{mapOf, map-lt}
+use Rattle.words.specs.Bits.{mapOf, map-lt, map-bits}
 use Rattle.pages.specs.Geometry.{slotCount, mapTop, objectAt}
 use Rattle.pages.specs.Objects.{mapAt, taken}
 use Rattle.areas.specs.Areas.{areas}
@@ -16,7 +16,7 @@ use Rattle.areas.specs.Tables.{at}
 use Rattle.calls.specs.Pass.{locked, unmarked, sweepMap, freedMap}
 use Rattle.sweep_order.specs.Order.{unmarkedMap}
 use Rattle.order_laws.specs.Freeing.{freed-skipped, freed-open, freed-none}
-use Rattle.sweep_maps.specs.Maps.{map-and, map-of-bits}
+use Rattle.sweep_maps.specs.Maps.{map-and}
 
 -- i and j: where the words stand
 pub unmarked-at : (w : List ℕ) (n p s o i j : ℕ) → o ≡ objectAt p s → i ≡ colourAt n o → j ≡ createdAt n o → eqb (at w i) 0 && eqb (at w j) 0 ≡ unmarked w n p s
@@ -45,7 +45,7 @@ module _ (c w : List ℕ) (n p u : ℕ) (e : u ≡ unmarkedMap w n p) where
   pub page-read : mapAt c p ≤ mapTop → locked w n p ≡ false → bitAnd (mapAt c p) u ≡ freedIn c w n p
   unfolding unmarkedMap sweepMap
   page-read l h =
-      ap (bitAnd (mapAt c p)) e ∙ ap (λ (x : ℕ). bitAnd x (mapOf (unmarked w n p) slotCount)) (map-of-bits slotCount (mapAt c p) (omega arith))
+      ap (bitAnd (mapAt c p)) e ∙ ap (λ (x : ℕ). bitAnd x (mapOf (unmarked w n p) slotCount)) (sym (map-bits slotCount (mapAt c p) (omega arith)))
       ∙ map-and (taken c p) (unmarked w n p) slotCount ∙ sym (freed-open (areas [] c [] [] [] w) n p h)
 
 pub freed-below : (c w : List ℕ) (n p m : ℕ) → m ≡ freedIn c w n p → m ≤ mapTop

@@ -35,10 +35,6 @@ map-and f g k = bits-same k (bitAnd (mapOf f k) (mapOf g k)) (mapOf (λ s. f s &
     (let l = and-le-l (mapOf f k) (mapOf g k) in let h = map-lt f k in omega arith) (map-lt (λ s. f s && g s) k)
     (λ j l. and-bit (mapOf f k) (mapOf g k) j ∙ and-cong (map-bit f k j l) (map-bit g k j l) ∙ sym (map-bit (λ s. f s && g s) k j l))
 
--- a word is the map of its bits
-pub map-of-bits : (k m : ℕ) → m < 2 ^ k → m ≡ mapOf (bit m) k
-map-of-bits k m h = bits-same k m (mapOf (bit m) k) h (map-lt (bit m) k) (λ j l. sym (map-bit (bit m) k j l))
-
 -- one more slot of a map of sixteen: y is what it adds, by a test b
 module _ (f : ℕ → Bool) (s x y : ℕ) (b : Bool) (h : x ≡ mapOf f s) (e : y ≡ if b (2 ^ s) 0) (t : b ≡ f s) where
   pub slot-next : x + y ≡ mapOf f (s + 1)

@@ -63,8 +63,8 @@ const CALLS: [(&str, &str, &str, &str); 22] = [
         "set_word",
         "5 words; 1 to 3 × R; of a reference 1 mask; the old word; 1 mask; of a reference that changes 3 words",
         "that mask; a record; the count; the word; of a reference that changes 1 mask, 1 colour",
-        "2, 4, 5; 7: t knows the object and the new reference; 11 as of begin. Unflushed gains t, the PRT the old \
-         reference, which turns grey while the pass marks",
+        "2, 4, 5; 7: t knows the object and the new reference; 18: no word more; 11 as of begin. Unflushed gains t, \
+         the PRT the old reference, which turns grey while the pass marks",
     ),
     (
         "flush",

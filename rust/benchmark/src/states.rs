@@ -59,7 +59,8 @@ pub fn populated(size: Size) -> Store {
         occupy(&mut store.stored, object, &mut random);
     }
     for i in 0..tree.len() {
-        store.stored[word_at(tree[i], 3)] = tree[random.below(tree.len())];
+        let other = (i + 1 + random.below(tree.len() - 1)) % tree.len();
+        store.stored[word_at(tree[i], 3)] = tree[other];
         if i > 0 {
             store.stored[word_at(tree[(i - 1) / 3], (i - 1) % 3)] = tree[i];
         }
@@ -135,7 +136,7 @@ fn abort_one(store: &mut Store, random: &mut Random) {
 }
 
 /// t walks down from the root and sets a word of each object that it comes to: mostly data, sometimes the
-/// reference across the tree.
+/// reference across the tree, to the object that it came from.
 pub fn walk(store: &mut Store, t: u32, sets: usize, random: &mut Random) {
     let mut at = ROOT;
     let mut before = ROOT;
@@ -144,7 +145,7 @@ pub fn walk(store: &mut Store, t: u32, sets: usize, random: &mut Random) {
         accept(store.lock_write(t, page_of(at) as u32));
         accept(store.read(&mut words, t, at));
         let (field, word) = match random.below(4) {
-            0 => (3, before),
+            0 if before != at => (3, before),
             _ => (4 + random.below(4) as u32, random.word()),
         };
         accept(store.set_word(t, at, field, word));

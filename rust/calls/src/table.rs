@@ -25,6 +25,14 @@ macro_rules! calls {
                 }
             }
 
+            /// The call of this name with these numbers, if there is one.
+            pub fn named(name: &str, numbers: &[u32]) -> Option<Call> {
+                match (name, numbers) {
+                    $( ($name, &[$($($number),+)?]) => Some(Call::$call $(($($number),+))?), )*
+                    _ => None,
+                }
+            }
+
             pub fn numbers(self) -> Vec<u32> {
                 match self {
                     $( Call::$call $(($($number),+))? => vec![$($($number),+)?], )*

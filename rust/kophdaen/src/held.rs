@@ -173,6 +173,8 @@ impl Held {
         lend!(self.store, kophdaen_held_create, t, object)
     }
 
+    /// Sets a word of an object. A reference word (`field` 0 to 3) takes 0 and objects that `t` knows, but
+    /// for the object itself, which is refused with 18.
     pub fn set_word(&mut self, t: u32, object: u32, field: u32, word: u32) -> Answer {
         lend!(self.store, kophdaen_held_set_word, t, object, field, word)
     }

@@ -73,6 +73,8 @@ impl Store {
         lend!(self, kophdaen_create, t, object)
     }
 
+    /// Sets a word of an object. A reference word (`field` 0 to 3) takes 0 and objects that `t` knows, but
+    /// for the object itself, which is refused with 18.
     pub fn set_word(&mut self, t: u32, object: u32, field: u32, word: u32) -> Answer {
         lend!(self, kophdaen_set_word, t, object, field, word)
     }

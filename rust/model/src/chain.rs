@@ -4,6 +4,7 @@ use std::collections::VecDeque;
 
 use crate::faults::Fault;
 use crate::layout::*;
+use crate::old::names_itself;
 use crate::{refuse, Answer, Model};
 
 /// "its length must be 4096 words", at every P.
@@ -71,6 +72,12 @@ impl Model {
         let named_by = turned(&names);
         match self.fault {
             Fault::ChainOfRootIsNone if object == ROOT => Vec::new(),
+            Fault::ChainOfOwnIsNone if names_itself(&self.areas.copies, object) => Vec::new(),
+            Fault::ChainRepeatsOwn => {
+                let times = |o: u32| 1 + usize::from(o != ROOT && names_itself(&self.areas.copies, o));
+                let chain = fewest_links(&names, &named_by, [ROOT, object], self.fault);
+                chain.into_iter().flat_map(|o| vec![o; times(o)]).collect()
+            }
             Fault::ChainOfRootGoesRound if object == ROOT && names[1].contains(&ROOT) => vec![ROOT, ROOT],
             Fault::ChainInWordOrder | Fault::ChainDepthFirst => first_found(&names, object, self.fault),
             Fault::ChainLevelsByNumber => {
@@ -98,7 +105,8 @@ impl Model {
         };
         let objects = 1..=self.areas.objects();
         let named = |object: u32| {
-            let words = &shown[word_at(object, 0)..][..fields];
+            let hidden = self.has(Fault::ChainHidesOwn) && names_itself(shown, object);
+            let words = &shown[word_at(object, 0)..][..if hidden { 0 } else { fields }];
             words.iter().copied().filter(|word| objects.contains(word)).collect()
         };
         std::iter::once(Vec::new()).chain(objects.clone().map(named)).collect()

@@ -4,6 +4,7 @@
 macro_rules! faults {
     (calls: $( $name:ident : $what:literal, )*;
      sweeps: $( $of_sweeps:ident : $what_of_sweeps:literal, )*;
+     own: $( $of_own:ident : $what_of_own:literal, )*;
      whole: $( $of_whole:ident : $what_of_whole:literal, )*;
      columns: $( $of_columns:ident : $what_of_columns:literal, )*) => {
         #[derive(Clone, Copy, PartialEq, Eq, Debug)]
@@ -11,6 +12,7 @@ macro_rules! faults {
             None,
             $( $name, )*
             $( $of_sweeps, )*
+            $( $of_own, )*
             $( $of_whole, )*
             $( $of_columns, )*
         }
@@ -19,6 +21,8 @@ macro_rules! faults {
         pub const FAULTS: &[(Fault, &str)] = &[ $( (Fault::$name, $what), )* ];
         /// .. of the sweeping step in the paper's order.
         pub const SWEEP_FAULTS: &[(Fault, &str)] = &[ $( (Fault::$of_sweeps, $what_of_sweeps), )* ];
+        /// .. of own numbers.
+        pub const OWN_FAULTS: &[(Fault, &str)] = &[ $( (Fault::$of_own, $what_of_own), )* ];
         /// .. and of `whole`.
         pub const WHOLE_FAULTS: &[(Fault, &str)] = &[ $( (Fault::$of_whole, $what_of_whole), )* ];
         /// .. and of `to_columns` and `from_columns`.
@@ -343,6 +347,76 @@ faults! {
     RoomBeforeMap: "DECISIONS 86: a page whose white slots are all free needs room",
     DeadPageDeallocated: "DECISIONS 86: a page without live objects is deallocated unread, with all sixteen slots",
     UnreadPagesUnchecked: "DECISIONS 86: refusal 1 looks at no pages where a step leaves its page unread",
+    ; own:
+    // document 02, L8: the refusal
+    OwnNumbersTaken: "a set may write an object's own number, as document 01 has it",
+    EighteenBeforeFive: "refusal 18 comes before 5",
+    EighteenBeforeSeven: "refusal 18 comes before 7",
+    OwnNumberIsSeven: "an own number is refused with 7",
+    EighteenTellsObject: "refusal 18 tells the object",
+    EighteenTellsCount: "refusal 18 tells the received count",
+    OwnNumberInDataRefused: "an own number is refused in data words too",
+    OwnNumberInWordThreeTaken: "an own number is refused in words 0 to 2 alone",
+    RootMayNameItself: "the root may name itself",
+    RootAloneRefused: "any object but the root may name itself",
+    OldWordTested: "the old word is compared with the object, in place of the new one",
+    OwnNumberKept: "an own number that is there may not be overwritten",
+    SameWordRefused: "the new word is compared with the old one, in place of the object",
+    FieldComparedWithObject: "the word's place, 0 to 3, is compared with the object, in place of the word",
+    SamePageRefused: "a reference to any object of the same page is refused",
+    SameSlotRefused: "a reference to any object with the same slot number is refused",
+    RefusedOwnSetIsRecorded: "a set refused with 18 appends its record",
+    RefusedOwnSetWrites: "a set refused with 18 writes its word",
+    RefusedOwnSetUnflushes: "after a set refused with 18 its page needs flushing",
+    RefusedOwnSetPrunes: "a set refused with 18 enters the old reference into the PRT",
+    // .. ones already stored, in the calls
+    ReadHidesOwn: "read shows 0 in place of an own number",
+    ReadOfOwnTeachesNothing: "read of an object that names itself makes nothing known",
+    ReadOfOwnRefused: "read of an object that names itself is refused with 18",
+    OwnOverwrittenUnpruned: "an own number that is overwritten does not enter the PRT",
+    OwnOverwrittenStaysWhite: "an own number overwritten while marking leaves its object white",
+    MarkingSkipsOwn: "marking does not follow the references of an object that names itself",
+    OwnIsNoTarget: "marking does not turn an object grey that names itself",
+    OwnStaysGrey: "an object that names itself stays grey when it is scanned",
+    OwnNamedAreRoots: "objects that name themselves are grey at the start of a pass",
+    OwnNamedAreSpared: "an object that names itself is never swept",
+    ChainHidesOwn: "chain does not go on from an object that names itself",
+    ChainRepeatsOwn: "an object that names itself, not the root, stands twice in a chain",
+    ChainOfOwnIsNone: "an object that names itself has no chain",
+    FlushRefusesOwn: "a page with an own number is refused by flush with 9",
+    FlushClearsOwn: "flush puts 0 in place of an own number into the copy",
+    StoreClearsOwn: "store page puts 0 in place of an own number",
+    // .. in undoing
+    AbortRefusedForOwn: "an abort that would put an own number back is refused with 18",
+    AbortStopsAtOwn: "an abort ends its undoing before a record that would put an own number back",
+    AbortSkipsOwn: "an abort leaves out the record that would put an own number back",
+    AbortClearsOwn: "an abort puts 0 back in place of an own number",
+    AbortPutsOwn: "an abort puts an own number back in place of 0",
+    BackRefusedForOwn: "going back that would put an own number back is refused with 18",
+    BackStopsAtOwn: "going back ends its undoing before a record that would put an own number back",
+    BackSkipsOwn: "going back leaves out the record that would put an own number back",
+    BackClearsOwn: "going back puts 0 back in place of an own number",
+    BackPutsOwn: "going back puts an own number back in place of 0",
+    // .. in pages and records
+    OwnReceivedOutOfRange: "an own number in a received page is out of range",
+    OwnCopyOutOfRange: "an own number in a copy is out of range",
+    OwnNewOutOfRange: "a received record that writes an own number is out of range",
+    OwnOldOutOfRange: "a received record that overwrites an own number is out of range",
+    OwnStoredUnsound: "reopening finds an own number in a stored page unsound",
+    OwnNewUnsound: "reopening finds a record unsound that writes an own number",
+    OwnOldUnsound: "reopening finds a record unsound that overwrites an own number",
+    OwnUnsoundAfterUndoing: "reopening finds an own number unsound that is there after the undoing",
+    ReplaySkipsOwn: "the replay skips a record that writes an own number",
+    ReplayClearsOwn: "the replay writes 0 in place of an own number",
+    RecoverySkipsOwn: "a reopening's undoing does not put an own number back",
+    RecoveryClearsOwn: "a reopening's undoing puts 0 back in place of an own number",
+    ReopenClearsOwn: "reopening leaves 0 in place of every own number",
+    // .. and the other readings
+    EighteenAfterEleven: "DECISIONS 88: refusal 18 comes after 11",
+    OwnNumberAgainTaken: "DECISIONS 88: an own number is taken where it stands already",
+    OwnNumberInFreeSlotTaken: "DECISIONS 88: an object whose slot is free may name itself",
+    RingsOfTwoRefused: "DECISIONS 88: a ring of two objects is refused too",
+    RingsRefused: "DECISIONS 88: every ring is refused",
     ; whole:
     WholeTrustsRoot: "the root is taken for occupied",
     WholeLooksAtRootAlone: "the root alone is looked at",
@@ -352,6 +426,7 @@ faults! {
     WholeFollowsData: "word 4 is followed as a reference",
     WholeMisreadsLastSlot: "slot 15 is taken for occupied",
     WholePassesOverAbove: "a reference above 16 x P is passed over",
+    WholeRefusesOwn: "pages in which the root reaches an object that names itself are not whole",
     WholeOfBrokenPage: "a length that is not whole pages is taken",
     WholeOfMorePages: "257 pages are taken",
     ; columns:

@@ -1,4 +1,4 @@
-//! Document 01's page server and collector, and document 02's L1 to L7, over the same lent words as
+//! Document 01's page server and collector, and document 02's L1 to L8, over the same lent words as
 //! the proved library.
 //!
 //! Written from documents 01 and 02, docs/LAYOUT.md and docs/DECISIONS.md, not from the library's source.
@@ -11,6 +11,8 @@ pub mod faults;
 mod holder;
 pub mod layout;
 mod marks;
+mod old;
+mod own;
 mod readers;
 pub mod recover;
 mod share;
@@ -21,6 +23,8 @@ mod whole;
 pub use columns::{from_columns, to_columns};
 pub use faults::Fault;
 use layout::*;
+use old::{names_itself, OF_ABORT};
+use own::Set;
 use recover::{recovered, take_effect};
 use sound::in_range;
 pub use whole::whole;
@@ -264,7 +268,7 @@ impl Model {
         if !self.has(Fault::AbortsOldestFirst) {
             changes.reverse();
         }
-        for change in changes {
+        for change in self.undone(changes, OF_ABORT)? {
             let i = self.areas.received_count();
             self.receive(self.undoing_record(change));
             if self.has(Fault::AbortNotesUndoing) {
@@ -393,6 +397,7 @@ impl Model {
             Fault::ReadTeachesThree => 3,
             _ => 4,
         };
+        let (words, learnt) = self.shown_of(object, words, learnt)?;
         for &reference in &words[..learnt] {
             if reference != 0 {
                 *self.areas.object_table(Table::Known, reference) |= bit(t);
@@ -430,25 +435,23 @@ impl Model {
     }
 
     /// "Set a word of a known object under the write lock. A reference written must be 0 or known.
-    /// If an old reference other than 0 changes, the PRT gains the old target for t."
+    /// If an old reference other than 0 changes, the PRT gains the old target for t." An own number
+    /// is refused (document 02, L8).
     pub fn set_word(&mut self, t: u32, object: u32, field: u32, word: u32) -> Answer {
+        let set = Set { t, object, field, word };
         self.ready()?;
         self.transaction(t)?;
         self.object(object)?;
         refuse(3, field > 7)?;
         self.must_be_active(t)?;
+        self.not_own_after(4, set)?;
         let page = page_of(object);
         self.write_lock(t, page)?;
-        refuse(7, !self.knows(t, object))?;
-        refuse(7, self.has(Fault::SetOfFreeSlotRefused) && !occupied(&self.areas.received, object))?;
-        let reference = field < 4;
-        let may_write = word == 0
-            || self.knows(t, word)
-            || (self.has(Fault::WritesAnyExistingObject)
-                && word <= self.areas.objects()
-                && occupied(&self.areas.received, word));
-        refuse(7, reference && !may_write)?;
+        self.not_own_after(5, set)?;
+        self.must_know(set)?;
+        self.not_own_after(7, set)?;
         self.room(2)?;
+        self.not_own_after(11, set)?;
 
         let shown = if self.has(Fault::SetTakesOldFromCopies) { &self.areas.copies } else { &self.areas.received };
         let old = shown[word_at(object, field as usize)];
@@ -457,10 +460,19 @@ impl Model {
             *self.areas.page_table(Table::Unflushed, page) |= bit(t);
         }
         let changes = old != word || self.has(Fault::PrtGainsUnchanged);
-        if reference && old != 0 && changes {
-            self.prune(t, old);
+        if field < 4 && old != 0 && changes {
+            self.prune_old(set, old);
         }
         Ok(self.received_count())
+    }
+
+    /// Refusal 7 of a set: "object or written reference not known to t".
+    fn must_know(&self, Set { t, object, field, word }: Set) -> Result<(), u32> {
+        refuse(7, !self.knows(t, object))?;
+        refuse(7, self.has(Fault::SetOfFreeSlotRefused) && !occupied(&self.areas.received, object))?;
+        let exists = || word <= self.areas.objects() && occupied(&self.areas.received, word);
+        let may_write = word == 0 || self.knows(t, word) || (self.has(Fault::WritesAnyExistingObject) && exists());
+        refuse(7, field < 4 && !may_write)
     }
 
     /// A PRT entry of t. "A PRT entry made while marking turns a white target grey."
@@ -496,8 +508,10 @@ impl Model {
         }
         self.write_lock(t, page)?;
         self.image_agrees(image, page)?;
+        self.flushes_own(page)?;
 
         self.take_copy(image, page);
+        self.clear_copied(Fault::FlushClearsOwn, Area::Copies, page);
         let flushed = if self.has(Fault::FlushedForAll) { u32::MAX } else { bit(t) };
         *self.areas.page_table(Table::Unflushed, page) &= !flushed;
         Ok(0)
@@ -525,6 +539,7 @@ impl Model {
         let shown = if self.has(Fault::StoresReceived) { &self.areas.received } else { &self.areas.copies };
         let words = shown[page_range(page)].to_vec();
         self.areas.stored[page_range(page)].copy_from_slice(&words);
+        self.clear_copied(Fault::StoreClearsOwn, Area::Stored, page);
         Ok(0)
     }
 
@@ -560,7 +575,8 @@ impl Model {
         }
         for object in 1..=self.areas.objects() {
             let pruned = self.areas.by_object(Table::Pruned, object) != 0 && !self.has(Fault::PrunedNoRoots);
-            let grey = object == ROOT || pruned;
+            let own = self.has(Fault::OwnNamedAreRoots) && names_itself(&self.areas.copies, object);
+            let grey = object == ROOT || pruned || own;
             *self.areas.object_table(Table::Colours, object) = if grey { GREY } else { WHITE };
         }
         self.areas.work[PHASE] = MARKING;
@@ -629,15 +645,17 @@ impl Model {
 
     fn scan(&mut self, object: u32) {
         let shown = if self.has(Fault::MarksByReceived) { &self.areas.received } else { &self.areas.copies };
-        if occupied(shown, object) {
+        let own = names_itself(shown, object);
+        if occupied(shown, object) && !(own && self.has(Fault::MarkingSkipsOwn)) {
             let words: [u32; 4] = shown[word_at(object, 0)..][..4].try_into().unwrap();
             for target in words {
-                if target != 0 && self.areas.by_object(Table::Colours, target) == WHITE {
+                if target != 0 && self.areas.by_object(Table::Colours, target) == WHITE && self.is_target(target) {
                     *self.areas.object_table(Table::Colours, target) = GREY;
                 }
             }
         }
-        *self.areas.object_table(Table::Colours, object) = BLACK;
+        let scanned = if own && self.has(Fault::OwnStaysGrey) { GREY } else { BLACK };
+        *self.areas.object_table(Table::Colours, object) = scanned;
     }
 
     /// The step number, up to the bound that docs/LAYOUT.md gives it (DECISIONS 35).

@@ -2,6 +2,7 @@
 
 use crate::faults::Fault;
 use crate::layout::*;
+use crate::old::OF_BACK;
 use crate::recover::take_effect;
 use crate::{clear_bit, refuse, Answer, Model};
 
@@ -43,7 +44,7 @@ impl Model {
         self.must_be_set(t, mark)?;
         self.room_to_undo(undone.len())?;
 
-        for change in undone {
+        for change in self.undone(undone, OF_BACK)? {
             self.take_back(t, change);
             self.touch_what_is_kept(t, change);
         }

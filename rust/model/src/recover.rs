@@ -2,6 +2,7 @@
 
 use crate::faults::Fault;
 use crate::layout::*;
+use crate::old::{record_reopens, reopened, replay, stored_reopens, undo_set};
 use crate::sound::*;
 
 /// The effect of one record on a page area: "1 begin, 2 create (occupied, words 0), 3 set (word :=
@@ -39,7 +40,8 @@ pub fn free_map(area: &mut [u32], page: usize, map: u32) {
 /// The pages that reopening leaves, or None where something is unsound.
 pub fn recovered(stored: &[u32], log: &[[u32; 6]], pages: usize, fault: Fault) -> Option<Vec<u32>> {
     // "The stored pages are checked first, then the records"
-    if fault != Fault::ReopenTrustsStoredPages && !pages_sound(stored, pages) {
+    let sound = fault == Fault::ReopenTrustsStoredPages || pages_sound(stored, pages);
+    if !sound || !stored_reopens(stored, fault) {
         return None;
     }
     let running = check_records(log, pages, fault)?;
@@ -50,7 +52,7 @@ pub fn recovered(stored: &[u32], log: &[[u32; 6]], pages: usize, fault: Fault) -
         if fault == Fault::ReplayForgetsSweeps && record[0] == 7 {
             continue;
         }
-        take_effect(&mut area, record);
+        replay(&mut area, record, fault);
     }
 
     // "Transactions without kind 4 or 5 after their last begin are undone back to that begin,
@@ -72,7 +74,7 @@ pub fn recovered(stored: &[u32], log: &[[u32; 6]], pages: usize, fault: Fault) -
     if fault != Fault::FreeSlotsUncheckedAfterUndoing && !free_slots_are_zero(&area, pages) {
         return None;
     }
-    Some(area)
+    reopened(area, fault)
 }
 
 /// The transactions still running at the end of the log, or None at the first unsound record: also
@@ -80,7 +82,7 @@ pub fn recovered(stored: &[u32], log: &[[u32; 6]], pages: usize, fault: Fault) -
 fn check_records(log: &[[u32; 6]], pages: usize, fault: Fault) -> Option<u32> {
     let mut running: u32 = 0;
     for &record in log {
-        if !record_sound(record, pages, fault) {
+        if !record_sound(record, pages, fault) || !record_reopens(record, fault) {
             return None;
         }
         let [kind, t, ..] = record;
@@ -117,10 +119,10 @@ fn is_undone(log: &[[u32; 6]], i: usize, running: u32, last_begins: [usize; 16])
 /// "a create frees its slot with words 0, a set puts the old word back, an uncreate occupies its
 /// slot with words 0"
 fn undo(area: &mut [u32], record: [u32; 6], fault: Fault) {
-    let [kind, _, object, field, old, _] = record;
+    let [kind, _, object, ..] = record;
     match kind {
         2 => free(area, object),
-        3 => area[word_at(object, field as usize)] = old,
+        3 => undo_set(area, record, fault),
         6 if fault != Fault::UncreateNotUndone => occupy(area, object),
         _ => {}
     }

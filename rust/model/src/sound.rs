@@ -2,6 +2,7 @@
 
 use crate::faults::Fault;
 use crate::layout::*;
+use crate::old::{pages_in_range, record_in_range};
 
 /// "a map above 65535; a reference above 16 x P; a free slot not zero; a root not occupied"
 pub fn pages_sound(area: &[u32], pages: usize) -> bool {
@@ -76,7 +77,10 @@ pub fn in_range(a: &Areas, pages: usize, records: usize, fault: Fault) -> bool {
         && pages_sound(&a.received, pages)
         && (fault == Fault::CopiesUnchecked || pages_sound(&a.copies, pages))
         && (fault == Fault::RecordsUnchecked
-            || (0..a.received_count()).all(|i| record_sound(a.record(i), pages, fault)))
+            || (0..a.received_count())
+                .map(|i| a.record(i))
+                .all(|record| record_sound(record, pages, fault) && record_in_range(record, fault)))
+        && pages_in_range(a, fault)
 }
 
 /// The largest value of a table's words.

@@ -3,6 +3,7 @@
 
 use crate::faults::Fault;
 use crate::layout::*;
+use crate::old::names_itself;
 use crate::recover::free_map;
 use crate::{refuse, Answer, Model};
 
@@ -91,6 +92,7 @@ impl Model {
             Fault::GreyAreFreed => colour != BLACK,
             Fault::WhiteRootSpared => colour == WHITE && object != ROOT,
             Fault::KnownAreSpared => colour == WHITE && self.areas.by_object(Table::Known, object) == 0,
+            Fault::OwnNamedAreSpared => colour == WHITE && !names_itself(&self.areas.copies, object),
             _ => colour == WHITE,
         }
     }

@@ -2,6 +2,7 @@
 
 use crate::faults::Fault;
 use crate::layout::*;
+use crate::old::names_itself;
 use crate::{refuse, Answer};
 
 /// Refusal 1 "where the length is not 129 x P with P from 1 to 256; else accepted with value 1 where
@@ -40,7 +41,8 @@ fn is_occupied(area: &[u32], object: u32, objects: usize, fault: Fault) -> bool 
         Fault::WholeMisreadsLastSlot => slot_of(object) == SLOTS - 1,
         _ => false,
     };
-    object as usize <= objects && (trusted || occupied(area, object))
+    let refused = fault == Fault::WholeRefusesOwn && object as usize <= objects && names_itself(area, object);
+    object as usize <= objects && (trusted || occupied(area, object)) && !refused
 }
 
 fn references(area: &[u32], object: u32, fault: Fault) -> Vec<u32> {

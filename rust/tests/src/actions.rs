@@ -161,6 +161,8 @@ pub enum Filling {
     Reopening,
     /// As `Reopening`, with one word of the log or the stored pages damaged.
     Damaged,
+    /// As calls and cuts left it before L8: objects name themselves.
+    Old,
 }
 
 #[derive(Clone, Debug, PartialEq)]

@@ -11,7 +11,7 @@ use crate::examples::{cut, no, ok, poke, Example, Step};
 use crate::run::unwritten;
 
 /// These objects are the chain to the last of them, or to none.
-fn chain(object: u32, objects: &[u32]) -> Step {
+pub fn chain(object: u32, objects: &[u32]) -> Step {
     let mut buffer = objects.to_vec();
     buffer.resize(CHAIN_WORDS, 0);
     Step { buffer: Some(buffer), ..ok(Chain(object), objects.len() as u32) }
@@ -28,6 +28,11 @@ fn refused_with(words: usize, object: u32, number: u32) -> Step {
 
 /// The page copies get these objects, each with its references from word 0 on, and what those name.
 fn graph(objects: &[(u32, &[u32])]) -> Vec<Step> {
+    graph_in(Area::Copies, objects)
+}
+
+/// .. or another page area does.
+pub fn graph_in(area: Area, objects: &[(u32, &[u32])]) -> Vec<Step> {
     let mut maps = BTreeMap::from([(page_of(ROOT), bit(slot_of(ROOT) as u32))]);
     let mut steps = Vec::new();
     for &(object, references) in objects {
@@ -35,9 +40,9 @@ fn graph(objects: &[(u32, &[u32])]) -> Vec<Step> {
             *maps.entry(page_of(there)).or_insert(0) |= bit(slot_of(there) as u32);
         }
         let words = references.iter().enumerate();
-        steps.extend(words.map(|(field, &word)| poke(Area::Copies, word_at(object, field), word)));
+        steps.extend(words.map(|(field, &word)| poke(area, word_at(object, field), word)));
     }
-    steps.extend(maps.into_iter().map(|(page, map)| poke(Area::Copies, map_at(page), map)));
+    steps.extend(maps.into_iter().map(|(page, map)| poke(area, map_at(page), map)));
     steps
 }
 

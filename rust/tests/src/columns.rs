@@ -33,6 +33,7 @@ impl Turn {
             (Kind::Library, Turn::FromColumns) => kophdaen::from_columns(page, out).code(),
             (Kind::Model(fault), Turn::ToColumns) => coded(model::to_columns(page, out, fault)),
             (Kind::Model(fault), Turn::FromColumns) => coded(model::from_columns(page, out, fault)),
+            (Kind::Held(_), _) => self.fill(MODEL, page, out), // there is no held form
         }
     }
 

@@ -1,6 +1,7 @@
 //! Document 01's fourteen examples of the refusal table, its bench input and its cases on L, each
 //! with the answers that the document gives; and the examples of chains, of holders, of marks, of
-//! passes and of their shares, of readers, of the sweeping step's order, and of a page by columns.
+//! passes and of their shares, of readers, of the sweeping step's order, of own numbers, and of a page
+//! by columns.
 
 use calls::Call::*;
 use model::layout::*;
@@ -9,6 +10,8 @@ use crate::actions::*;
 use crate::chains;
 use crate::holders;
 use crate::marks;
+use crate::old_stores;
+use crate::own_sets;
 use crate::passes;
 use crate::readers;
 use crate::run::*;
@@ -149,18 +152,27 @@ fn made(pair: &mut Pair, Step { action, number, value, buffer, words }: &Step) -
     }
 }
 
-/// Runs every example on both sides: how many calls, or what went wrong.
-pub fn run(left: Kind, right: Kind) -> Result<u64, String> {
-    let mut calls = 0;
+/// Every example of the calls.
+fn all() -> Vec<Example> {
     let own = [refusals(), room(), vec![bench()]];
     let requests = [chains::examples(), holders::examples(), marks::examples()];
     let passes = [passes::examples(), shares::examples(), readers::examples(), sweeps::examples()];
-    for Example { name, pages, records, steps } in own.into_iter().chain(requests).chain(passes).flatten() {
+    let own_numbers = [own_sets::examples(), old_stores::examples()];
+    own.into_iter().chain(requests).chain(passes).chain(own_numbers).flatten().collect()
+}
+
+/// Runs every example on both sides: how many examples and calls, or what went wrong.
+pub fn run(left: Kind, right: Kind) -> Result<[u64; 2], String> {
+    let mut calls = 0;
+    let all = all();
+    let examples = all.len() as u64;
+    for Example { name, pages, records, steps } in all {
         let mut pair = Pair::new(left, right, pages, records);
         for step in [ok(Format, 0)].iter().chain(&steps) {
             made(&mut pair, step).map_err(|what| format!("{name}: {}: {what}", step.action))?;
             calls += u64::from(step.action.call().is_some());
         }
     }
-    Ok(calls + turns::run(left, right)?)
+    let turns = turns::run(left, right)?;
+    Ok([examples + turns, calls + turns])
 }

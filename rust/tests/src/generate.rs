@@ -20,6 +20,8 @@ pub struct Style {
     pub lengths: usize,
     /// Calls with arguments taken at random.
     pub wild: usize,
+    /// Of a hundred sets of a reference, those that write the object's own number.
+    pub own: usize,
     /// Transactions that run side by side, about.
     pub crowd: usize,
     pub habit: Habit,
@@ -104,8 +106,11 @@ impl Generator {
             return self.resized(a, request);
         }
         if let Some(filling) = self.style.filling {
-            let long = matches!(filling, Filling::Sound | Filling::Linked | Filling::Marked);
-            let every = if long { 12 } else { 4 };
+            let every = match filling {
+                Filling::Old => 60,
+                Filling::Sound | Filling::Linked | Filling::Marked => 12,
+                _ => 4,
+            };
             if self.asking.is_empty() && self.random.below(every) == 0 {
                 return self.fill(filling, a);
             }
@@ -234,10 +239,7 @@ impl Generator {
         let page = number(r, pages);
         let object = number(r, SLOTS * pages + 1);
         let field = number(r, 8);
-        let word = match r.below(3) {
-            0 => odd_word(0, pages, r),
-            _ => number(r, SLOTS * pages + 1),
-        };
+        let word = any_word(object, pages, r);
         let mark = number(r, MARKS as usize);
         let call = match r.below(42) {
             0 if r.percent(10) => Call::Format,
@@ -435,26 +437,6 @@ impl Generator {
         Call::Create(t, self.random.pick(&free).unwrap_or(ROOT + 1))
     }
 
-    /// Of a known object, to nothing, to the word that it has, to an object known or not, or to data.
-    fn set_word(&mut self, a: &Areas, t: u32) -> Call {
-        if let (Some(call), true) = (old_word_by_hand(a, t), self.random.percent(8)) {
-            return call;
-        }
-        let writable = |o: u32| a.get(Table::Writers, page_of(o)) & bit(t) != 0;
-        let object = self.known(a, t, writable).unwrap_or(ROOT);
-        let field = if self.random.percent(75) { self.random.below(4) } else { self.random.below(8) };
-        let word = match self.random.below(10) {
-            _ if self.style.habit == Habit::Building && field < 4 => self.known(a, t, |o| o != ROOT).unwrap_or(0),
-            0..=2 => 0,
-            3 => a.received[word_at(object, field)],
-            4 if field < 4 && self.random.percent(40) => self.existing(a),
-            _ if field < 4 => self.known(a, t, |_| true).unwrap_or(0),
-            4 | 5 => self.existing(a),
-            _ => self.random.word(),
-        };
-        Call::SetWord(t, object, field as u32, word)
-    }
-
     fn unflushed(&mut self, a: &Areas, t: u32) -> Option<u32> {
         (0..a.pages()).find(|&p| a.get(Table::Unflushed, p) & bit(t) != 0).map(|p| p as u32)
     }
@@ -479,7 +461,7 @@ impl Generator {
     }
 
     /// An object that t knows.
-    fn known(&mut self, a: &Areas, t: u32, also: impl Fn(u32) -> bool) -> Option<u32> {
+    pub fn known(&mut self, a: &Areas, t: u32, also: impl Fn(u32) -> bool) -> Option<u32> {
         let pages = a.pages();
         let table = &a.work[Table::Known.first(pages)..][..SLOTS * pages];
         let known: Vec<u32> =
@@ -488,7 +470,7 @@ impl Generator {
     }
 
     /// An object that exists, known or not.
-    fn existing(&mut self, a: &Areas) -> u32 {
+    pub fn existing(&mut self, a: &Areas) -> u32 {
         let page = self.page() as usize;
         let there: Vec<u32> =
             (0..SLOTS).map(|s| object_at(page, s)).filter(|&o| occupied(&a.received, o)).collect();
@@ -527,21 +509,21 @@ impl Generator {
     }
 }
 
+/// A word to set of this object: its own number, a word about a bound, or an object's number or about one.
+fn any_word(object: u32, pages: usize, r: &mut Random) -> u32 {
+    match r.below(6) {
+        0 => object,
+        1 | 2 => odd_word(0, pages, r),
+        _ => about(SLOTS * pages + 1, pages, r),
+    }
+}
+
 /// A number below n, or about it.
 fn about(n: usize, pages: usize, r: &mut Random) -> u32 {
     match r.below(12) {
         0 => n as u32,
         1 => odd_word(n as u32, pages, r),
         _ => r.below(n) as u32,
-    }
-}
-
-/// Where the last change of t is a set: its old word set again, which looks like its undoing.
-fn old_word_by_hand(a: &Areas, t: u32) -> Option<Call> {
-    let mut newest_first = (0..a.received_count().min(a.records())).rev().map(|i| a.record(i));
-    match newest_first.find(|record| record[1] == t && record[0] != 7)? {
-        [3, _, object, field, old, _] => Some(Call::SetWord(t, object, field, old)),
-        _ => None,
     }
 }
 
@@ -602,6 +584,8 @@ fn reserved(a: &Areas) -> usize {
 pub enum Scope {
     /// Calls (some of wrong lengths) and cuts alone, from the formatted store, small sizes.
     Legal,
+    /// .. from stores of before L8.
+    Old,
     /// Damage, rubbish and wrong lengths too.
     Small,
     /// Sizes up to P = 256 and L = 4096 too.
@@ -622,8 +606,8 @@ pub fn plan(random: &mut Random, scope: Scope) -> (usize, usize, Style, usize) {
     let calls = match style.filling {
         None if large => random.between(200, 3000),
         None => random.between(100, 1200),
-        Some(Filling::Sound | Filling::Linked | Filling::Contended | Filling::Marked) => random.between(100, 900),
-        Some(_) => random.between(20, 300),
+        Some(Filling::Noise | Filling::Reopening | Filling::Damaged) => random.between(20, 300),
+        Some(_) => random.between(100, 900),
     };
     (pages, records, style, calls)
 }
@@ -654,12 +638,23 @@ pub fn size(random: &mut Random, large: bool) -> (usize, usize) {
     }
 }
 
+/// Calls and cuts that most states take.
+pub const PLAIN: Style =
+    Style { cuts: 3, damage: 0, lengths: 4, wild: 20, own: 5, crowd: 2, habit: Habit::Mixed, filling: None };
+
+/// One of the habits by which transactions change much.
+pub fn old_style(style: Style, random: &mut Random) -> Style {
+    let habits = [Habit::Mixed, Habit::Building, Habit::Trying, Habit::Reading];
+    Style { habit: habits[random.weighted(&[30, 15, 40, 15])], crowd: style.crowd.min(5), ..style }
+}
+
 fn style(random: &mut Random, scope: Scope) -> Style {
     let crowd = random.pick(&[1, 1, 2, 2, 3, 3, 5, 16]).unwrap();
-    let plain = Style { cuts: 3, damage: 0, lengths: 4, wild: 40, crowd, habit: Habit::Mixed, filling: None };
+    let plain = Style { wild: 40, crowd, ..PLAIN };
     let styles = match scope {
-        Scope::Legal => [45, 20, 25, 35, 10, 40, 0, 0, 0, 0, 0, 0, 0, 0],
-        _ => [45, 20, 15, 30, 8, 20, 15, 20, 2, 10, 6, 12, 5, 10],
+        Scope::Legal => [45, 20, 25, 35, 10, 40, 0, 0, 0, 0, 0, 0, 0, 0, 0],
+        Scope::Old => [0, 0, 0, 0, 0, 0, 0, 0, 0, 0, 0, 0, 0, 0, 1],
+        _ => [45, 20, 15, 30, 8, 20, 15, 20, 2, 10, 6, 12, 5, 10, 25],
     };
     let trying = Style { cuts: 2, wild: 15, crowd: crowd.min(3), habit: Habit::Trying, ..plain };
     match random.weighted(&styles) {
@@ -676,6 +671,7 @@ fn style(random: &mut Random, scope: Scope) -> Style {
         10 => Style { filling: Some(Filling::Damaged), ..plain },
         11 => Style { damage: 30, lengths: 10, filling: Some(Filling::Linked), ..plain },
         12 => Style { damage: 30, filling: Some(Filling::Contended), ..plain },
-        _ => Style { damage: 30, filling: Some(Filling::Marked), ..trying },
+        13 => Style { damage: 30, filling: Some(Filling::Marked), ..trying },
+        _ => old_style(Style { wild: 20, own: 12, filling: Some(Filling::Old), ..plain }, random),
     }
 }

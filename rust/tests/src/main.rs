@@ -2,11 +2,12 @@
 //! with wrong behaviours put into the model.
 //!
 //!   compare examples
-//!   compare random  [--seed N] [--calls N] [--large]
+//!   compare random  [--seed N] [--calls N] [--large | --old]
 //!   compare whole   [--seed N] [--calls N]
 //!   compare columns [--seed N] [--calls N]
 //!   compare orders  [--seed N] [--calls N]
 //!   compare open    [--seed N] [--calls N]
+//!   compare bench   [FILE.in ..]
 //!   compare power   [--seed N] [--calls N] [--write FILE]
 //!   compare show FAULT [--seed N] [--calls N]
 //!   compare oracle PROGRAM [--seed N] [--calls N] [--large]
@@ -14,6 +15,7 @@
 //! Exit status 0 where nothing differs (power: and every fault is noticed), else 1.
 
 mod actions;
+mod bench;
 mod chains;
 mod columns;
 mod crowd;
@@ -23,9 +25,13 @@ mod graphs;
 mod holders;
 mod images;
 mod marks;
+mod old;
+mod old_stores;
 mod open;
 mod oracle;
 mod orders;
+mod own_sets;
+mod owns;
 mod passes;
 mod power;
 mod random;
@@ -33,6 +39,7 @@ mod readers;
 mod reads;
 mod rubbish;
 mod run;
+mod sets;
 mod shares;
 mod sides;
 mod steps;
@@ -54,67 +61,72 @@ use sides::{Kind, MODEL};
 struct Options {
     seed: u64,
     calls: u64,
-    large: bool,
+    scope: Scope,
     write: Option<String>,
-    program: Option<String>,
+    /// A fault, the oracle's program, or files.
+    named: Vec<String>,
 }
 
 impl Options {
-    fn scope(&self) -> Scope {
-        if self.large {
-            Scope::Large
-        } else {
-            Scope::Small
+    fn read(words: &[String]) -> Options {
+        let mut options =
+            Options { seed: 1, calls: 1_000_000, scope: Scope::Small, write: None, named: Vec::new() };
+        let mut rest = words.iter();
+        while let Some(word) = rest.next() {
+            match word.as_str() {
+                "--large" => options.scope = Scope::Large,
+                "--old" => options.scope = Scope::Old,
+                "--seed" | "--calls" | "--write" => {
+                    let value = rest.next().cloned().unwrap_or_else(usage);
+                    match word.as_str() {
+                        "--write" => options.write = Some(value),
+                        "--seed" => options.seed = value.parse().unwrap_or_else(|_| usage()),
+                        _ => options.calls = value.parse().unwrap_or_else(|_| usage()),
+                    }
+                }
+                _ => options.named.push(word.clone()),
+            }
         }
+        options
+    }
+
+    /// The one thing that is named.
+    fn name(&self) -> &str {
+        self.named.first().unwrap_or_else(usage)
     }
 }
 
 fn main() {
     let words: Vec<String> = std::env::args().skip(1).collect();
-    let mode = words.first().cloned().unwrap_or_default();
-    let mut options = Options { seed: 1, calls: 1_000_000, large: false, write: None, program: None };
-    let mut rest = words.iter().skip(1);
-    while let Some(word) = rest.next() {
-        match word.as_str() {
-            "--large" => options.large = true,
-            "--seed" | "--calls" | "--write" => {
-                let value = rest.next().cloned().unwrap_or_else(usage);
-                match word.as_str() {
-                    "--write" => options.write = Some(value),
-                    "--seed" => options.seed = value.parse().unwrap_or_else(|_| usage()),
-                    _ => options.calls = value.parse().unwrap_or_else(|_| usage()),
-                }
-            }
-            _ => options.program = Some(word.clone()),
-        }
-    }
+    let (mode, rest) = words.split_first().unwrap_or_else(usage);
+    let options = Options::read(rest);
+    let Options { seed, calls, .. } = options;
     let good = match mode.as_str() {
         "examples" => run_examples(),
         "random" => run_random(&options),
-        "whole" => whole::run(options.seed, options.calls),
-        "columns" => columns::run(options.seed, options.calls),
-        "orders" => orders::run(options.seed, options.calls),
-        "open" => open::run(options.seed, options.calls),
-        "power" => power::run(options.seed, options.calls, options.write.as_deref()),
-        "show" => power::show(&options.program.unwrap_or_else(usage), options.seed, options.calls),
-        "oracle" => {
-            let scope = options.scope();
-            oracle::run(&options.program.unwrap_or_else(usage), options.seed, options.calls, scope)
-        }
+        "whole" => whole::run(seed, calls),
+        "columns" => columns::run(seed, calls),
+        "orders" => orders::run(seed, calls),
+        "open" => open::run(seed, calls),
+        "bench" => bench::run(&options.named),
+        "power" => power::run(seed, calls, options.write.as_deref()),
+        "show" => power::show(options.name(), seed, calls),
+        "oracle" => oracle::run(options.name(), seed, calls, options.scope),
         _ => usage(),
     };
     exit(if good { 0 } else { 1 });
 }
 
 fn usage<T>() -> T {
-    eprintln!("usage: compare examples | random | whole | columns | orders | open | power | show FAULT | oracle PROGRAM [--seed N] [--calls N] [--large] [--write FILE]");
+    eprintln!("usage: compare examples | random | whole | columns | orders | open | bench [FILE.in ..] | power | show FAULT | oracle PROGRAM [--seed N] [--calls N] [--large | --old] [--write FILE]");
     exit(2)
 }
 
 fn run_examples() -> bool {
     match examples::run(Kind::Library, MODEL) {
-        Ok(calls) => {
-            println!("examples: {} against model, {calls} calls, no difference", Kind::Library.name());
+        Ok([examples, calls]) => {
+            print!("examples: {} against model, {examples} examples, ", Kind::Library.name());
+            println!("{calls} calls, no difference");
             true
         }
         Err(what) => {
@@ -164,7 +176,7 @@ fn run_random(options: &Options) -> bool {
     let mut tally = Tally::new();
     let started = Instant::now();
     let sides = [Kind::Library, MODEL];
-    let found = random_lists(sides, Watch::All, options.seed, options.calls, options.scope(), &mut tally);
+    let found = random_lists(sides, Watch::All, options.seed, options.calls, options.scope, &mut tally);
     let seconds = started.elapsed().as_secs_f64();
     tally.print();
     println!("{:.1} s, {:.0} calls per second, seed {}", seconds, tally.calls as f64 / seconds, options.seed);

@@ -18,7 +18,7 @@ fn with_records(name: &'static str, records: usize, steps: impl IntoIterator<Ite
 
 impl Step {
     /// .. which appends these records of transaction 0 after so many, and no others: kind, object, field, old, new.
-    fn appends(self, before: usize, records: &[[u32; 5]]) -> Step {
+    pub fn appends(self, before: usize, records: &[[u32; 5]]) -> Step {
         let words: Vec<u32> =
             records.iter().flat_map(|&[kind, rest @ ..]| [[kind, 0].to_vec(), rest.to_vec()].concat()).collect();
         let count = before + records.len();
@@ -26,7 +26,7 @@ impl Step {
     }
 
     /// .. after which these words stand in a table, from its first or a later one on.
-    fn has(self, table: Table, from: usize, words: &[u32]) -> Step {
+    pub fn has(self, table: Table, from: usize, words: &[u32]) -> Step {
         self.leaves(Area::Work, table.first(PAGES) + from, words)
     }
 

@@ -7,7 +7,7 @@ use model::layout::*;
 use model::{whole, Fault, Model, Refusal};
 
 use crate::actions::{Action, Filling};
-use crate::generate::{size, Generator, Habit, Style};
+use crate::generate::{size, Generator, Habit, Style, PLAIN};
 use crate::random::Random;
 use crate::reads::Reads;
 use crate::rubbish::fill;
@@ -24,12 +24,14 @@ struct Disk {
 }
 
 impl Disk {
-    /// Pages that are whole or not, without a log; or pages with a log, sound or damaged; or lengths that do not fit.
+    /// Pages that are whole or not, without a log; or a disk of before L8; or pages with a log, sound or damaged; or
+    /// lengths that do not fit.
     fn new(random: &mut Random) -> Disk {
         let (pages, records) = size(random, false);
-        let mut areas = match random.weighted(&[60, 30, 10]) {
+        let mut areas = match random.weighted(&[45, 15, 30, 10]) {
             0 => Areas::zeros(pages, records),
-            1 => fill(Filling::Reopening, random.next(), pages, records),
+            1 => fill(Filling::Old, random.next(), pages, records),
+            2 => fill(Filling::Reopening, random.next(), pages, records),
             _ => fill(Filling::Damaged, random.next(), pages, records),
         };
         if areas.stored[0] == 0 {
@@ -111,12 +113,13 @@ fn go_on(areas: &Areas, random: &mut Random) -> Result<(Areas, u64), String> {
     let crowd = random.between(1, 4);
     let habits = [Habit::Mixed, Habit::Building, Habit::Trying, Habit::Crowding, Habit::Reading];
     let habit = habits[random.weighted(&[40, 18, 22, 8, 12])];
-    let style = Style { cuts: 6, damage: 0, lengths: 0, wild: 40, crowd, habit, filling: None };
+    let style = Style { cuts: 6, lengths: 0, wild: 40, crowd, habit, ..PLAIN };
     let mut generator = Generator::new(Random::new(random.next()), style, areas.pages()).going_on();
     let mut pair = Pair::new(Kind::Library, MODEL, areas.pages(), areas.records());
     pair.load(areas);
     pair.steps = Steps::reopened();
     pair.reads = Reads::reopened();
+    pair.owns.reopened(areas);
     let mut calls = 0;
     for _ in 0..random.between(20, 400) {
         let action = generator.next(&pair.areas());

@@ -6,8 +6,9 @@
 //! One known difference is kept out of the lists: the oracle has no bound on the pass's step number,
 //! which docs/LAYOUT.md ends at 17 x P (DECISIONS 35). Others are those of document 02: the oracle is
 //! of document 01, where refusal 6 has the value 0 and there are no marks, whose words stay 0; where a
-//! page with any lock is skipped, so the model does likewise here; and where an image must equal the
-//! received page, so that one which the model takes goes as that page.
+//! page with any lock is skipped, so the model does likewise here; where an image must equal the
+//! received page, so that one which the model takes goes as that page; and where a set may write an
+//! object's own number, so that one which the model refuses with 18 is left out.
 
 use std::fmt::Write as _;
 use std::io::Write as _;
@@ -90,6 +91,9 @@ impl Script {
         let mut buffer = [0; OBJECT_WORDS];
         let image = request.image(&model.areas.received, &model.areas.copies);
         let answer = model.perform(call, Lent { buffer: &mut buffer, image: &image });
+        if answer >> 32 == 18 {
+            return;
+        }
         match call {
             Call::Read(t, object) => writeln!(self.input, "readw,{t},{object}").unwrap(),
             Call::Flush(t, page) => {

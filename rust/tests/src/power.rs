@@ -2,7 +2,7 @@
 
 use std::fmt::Write;
 
-use model::faults::{COLUMN_FAULTS, FAULTS, SWEEP_FAULTS, WHOLE_FAULTS};
+use model::faults::{COLUMN_FAULTS, FAULTS, OWN_FAULTS, SWEEP_FAULTS, WHOLE_FAULTS};
 use model::Fault;
 
 use crate::generate::Scope;
@@ -22,7 +22,7 @@ fn noticed(fault: Fault, seed: u64, calls: u64, scope: Scope) -> Option<u64> {
 /// Prints how the named fault shows: the shrunk list and the least state, or the page area, or the page.
 pub fn show(name: &str, seed: u64, calls: u64) -> bool {
     std::panic::set_hook(Box::new(|_| {}));
-    let mut faults = FAULTS.iter().chain(SWEEP_FAULTS).chain(WHOLE_FAULTS).chain(COLUMN_FAULTS);
+    let mut faults = FAULTS.iter().chain(SWEEP_FAULTS).chain(OWN_FAULTS).chain(WHOLE_FAULTS).chain(COLUMN_FAULTS);
     let Some(named) = faults.find(|(fault, _)| format!("{fault:?}") == name) else {
         println!("no fault is named {name}");
         return false;
@@ -100,6 +100,50 @@ fn sweeps_table(seed: u64, calls: u64) -> Table {
     table
 }
 
+/// .. and of own numbers, from old stores too.
+fn own_table(seed: u64, calls: u64) -> Table {
+    let mut table = Table::default();
+    for &(fault, what) in OWN_FAULTS {
+        let (by_example, [by_calls, by_all]) = by_lists(fault, seed, calls);
+        let by_old = noticed(fault, seed, calls / 10, Scope::Old);
+        let cells = [by_calls, by_old, by_all].map(shown);
+        table.add(fault, by_all, &[what, yes(by_example), &cells[0], &cells[1], &cells[2]]);
+    }
+    table
+}
+
+/// Faults of the held forms alone.
+const HELD: [Fault; 16] = [
+    Fault::OwnNumbersTaken,
+    Fault::EighteenBeforeSeven,
+    Fault::EighteenAfterEleven,
+    Fault::OwnNumberIsSeven,
+    Fault::EighteenTellsObject,
+    Fault::OwnNumberInDataRefused,
+    Fault::OwnNumberInWordThreeTaken,
+    Fault::RootMayNameItself,
+    Fault::OldWordTested,
+    Fault::OwnNumberAgainTaken,
+    Fault::RefusedOwnSetIsRecorded,
+    Fault::RefusedOwnSetUnflushes,
+    Fault::ReadHidesOwn,
+    Fault::OwnOverwrittenUnpruned,
+    Fault::AbortClearsOwn,
+    Fault::BackClearsOwn,
+];
+
+/// The library beside the model, and the held forms made by a model with the fault: from old stores.
+fn held_table(seed: u64, calls: u64) -> Table {
+    let mut table = Table::default();
+    for fault in HELD {
+        let sides = [UNCHANGED, Kind::Held(fault)];
+        let found = random_lists(sides, Watch::All, seed, calls, Scope::Old, &mut Tally::new());
+        let found = found.map(|(_, calls)| calls);
+        table.add(fault, found, &[&shown(found)]);
+    }
+    table
+}
+
 /// Faults that are put into both sides, so that the tally of steps alone can notice them.
 const TALLIED: [Fault; 14] = [
     Fault::MarksAllInFirstStep,
@@ -134,6 +178,20 @@ const READ_AGAIN: [Fault; 14] = [
     Fault::SweepDropsReadLocks,
     Fault::SweptPageIsForgotten,
     Fault::UnmarkedOfNextPage,
+];
+
+/// .. so that the own numbers of the pages alone can.
+const OWNS: [Fault; 10] = [
+    Fault::OwnNumbersTaken,
+    Fault::OwnNumberInWordThreeTaken,
+    Fault::RootMayNameItself,
+    Fault::RootAloneRefused,
+    Fault::OldWordTested,
+    Fault::SameWordRefused,
+    Fault::FieldComparedWithObject,
+    Fault::RefusedOwnSetWrites,
+    Fault::AbortPutsOwn,
+    Fault::BackPutsOwn,
 ];
 
 /// Faults in both sides, noticed by what is watched alone.
@@ -172,8 +230,8 @@ fn columns_table(seed: u64, pages: u64) -> Table {
 }
 
 /// docs/TESTS.md with these tables.
-fn page(tables: &[Table; 6], seed: u64, calls: u64) -> String {
-    let [table, sweeps_table, tally_table, reads_table, whole_table, columns_table] =
+fn page(tables: &[Table; 9], seed: u64, calls: u64) -> String {
+    let [table, sweeps_table, own_table, held_table, tally_table, reads_table, owns_table, whole_table, columns_table] =
         tables.each_ref().map(|table| table.lines.trim_end());
     format!(
         include_str!("tests.md"),
@@ -184,10 +242,16 @@ fn page(tables: &[Table; 6], seed: u64, calls: u64) -> String {
         table = table,
         sweep_faults = SWEEP_FAULTS.len(),
         sweeps_table = sweeps_table,
+        own_faults = OWN_FAULTS.len(),
+        own_table = own_table,
+        held = HELD.len(),
+        held_table = held_table,
         tallied = TALLIED.len(),
         tally_table = tally_table,
         read_again = READ_AGAIN.len(),
         reads_table = reads_table,
+        owns = OWNS.len(),
+        owns_table = owns_table,
         whole_faults = WHOLE_FAULTS.len(),
         whole_table = whole_table,
         column_faults = COLUMN_FAULTS.len(),
@@ -201,14 +265,18 @@ pub fn run(seed: u64, calls: u64, write: Option<&str>) -> bool {
     let tables = [
         calls_table(seed, calls),
         sweeps_table(seed, calls),
+        own_table(seed, calls),
+        held_table(seed, tenth),
         watched_table(Watch::Steps, &TALLIED, seed, tenth),
         watched_table(Watch::Reads, &READ_AGAIN, seed, calls),
+        watched_table(Watch::Owns, &OWNS, seed, tenth),
         whole_table(seed, tenth),
         columns_table(seed, tenth),
     ];
     let same = orders::run(seed, tenth);
     let missed: usize = tables.iter().map(|table| table.missed).sum();
-    let faults = FAULTS.len() + SWEEP_FAULTS.len() + WHOLE_FAULTS.len() + COLUMN_FAULTS.len();
+    let faults: usize =
+        [FAULTS, SWEEP_FAULTS, OWN_FAULTS, WHOLE_FAULTS, COLUMN_FAULTS].iter().map(|faults| faults.len()).sum();
     println!("power: {faults} faults against {}, {missed} not noticed", UNCHANGED.name());
     if let Some(path) = write {
         if let Err(error) = std::fs::write(path, page(&tables, seed, calls)) {

@@ -29,17 +29,17 @@ impl Step {
     }
 
     /// .. after which a table by page has this at a page.
-    fn at_page(self, table: Table, page: usize, word: u32) -> Step {
+    pub fn at_page(self, table: Table, page: usize, word: u32) -> Step {
         self.leaves(Area::Work, table.first(PAGES) + page, &[word])
     }
 
     /// .. after which a table by object has this at an object.
-    fn at_object(self, table: Table, object: u32, word: u32) -> Step {
+    pub fn at_object(self, table: Table, object: u32, word: u32) -> Step {
         self.leaves(Area::Work, table.first(PAGES) + object as usize - 1, &[word])
     }
 
     /// .. which shows these words.
-    fn shows(self, words: [u32; 8]) -> Step {
+    pub fn shows(self, words: [u32; 8]) -> Step {
         Step { buffer: Some(words.to_vec()), ..self }
     }
 }

@@ -4,6 +4,7 @@ use model::layout::*;
 
 use crate::actions::Filling;
 use crate::graphs::linked_pages;
+use crate::old;
 use crate::random::Random;
 
 pub fn fill(filling: Filling, seed: u64, pages: usize, records: usize) -> Areas {
@@ -20,6 +21,7 @@ pub fn fill(filling: Filling, seed: u64, pages: usize, records: usize) -> Areas 
             reopening(&mut areas, &mut random);
             damage_one(&mut areas, &mut random);
         }
+        Filling::Old => areas = old::store(pages, records, &mut random),
     }
     areas
 }
@@ -47,16 +49,24 @@ pub fn sound_pages(area: &mut [u32], pages: usize, random: &mut Random) {
         let map = mask(random, thin) | u32::from(page == 0);
         area[map_at(page)] = map;
         for slot in (0..SLOTS).filter(|&slot| map & bit(slot as u32) != 0) {
-            let at = word_at(object_at(page, slot), 0);
+            let object = object_at(page, slot);
             for field in 0..8 {
-                area[at + field] = match random.below(3) {
+                area[word_at(object, field)] = match random.below(3) {
                     0 => 0,
-                    _ if field < 4 => random.below(objects + 1) as u32,
+                    _ if field < 4 => reference_of(object, objects, random),
                     1 => random.below(3) as u32,
                     _ => random.word(),
                 };
             }
         }
+    }
+}
+
+/// Any, and now and then the object itself.
+fn reference_of(object: u32, objects: usize, random: &mut Random) -> u32 {
+    match random.below(10) {
+        0 => object,
+        _ => random.below(objects + 1) as u32,
     }
 }
 
@@ -79,7 +89,7 @@ fn sound_record(pages: usize, random: &mut Random) -> [u32; 6] {
 fn set_record(t: u32, object: u32, pages: usize, random: &mut Random) -> [u32; 6] {
     let field = random.below(8) as u32;
     let mut word = || match field {
-        0..=3 => random.below(SLOTS * pages + 1) as u32,
+        0..=3 => reference_of(object, SLOTS * pages, random),
         _ => random.word() >> random.below(32),
     };
     [3, t, object, field, word(), word()]

@@ -1,18 +1,19 @@
 //! Runs actions on two sides and compares every answer and every lent word after each; shrinks a
 //! list on which they differ. Beside the library's calls their held forms are made; the steps of its
-//! passes are tallied, and what its transactions read is held to what they read before.
+//! passes are tallied, what its transactions read is held to what they read before, and its pages to
+//! the own numbers that they began with.
 
 use std::panic::{catch_unwind, AssertUnwindSafe};
 
 use calls::{Call, Lent, Side, NAMES};
-use kophdaen::{Held, Store};
 use model::layout::*;
 use model::{Fault, Model};
 
 use crate::actions::*;
+use crate::owns::Owns;
 use crate::reads::Reads;
 use crate::rubbish::fill;
-use crate::sides::Kind;
+use crate::sides::{Holder, Kind};
 use crate::steps::Steps;
 
 /// What the left side is held to, beside the right one.
@@ -21,13 +22,14 @@ pub enum Watch {
     All,
     Steps,
     Reads,
+    Owns,
 }
 
 pub struct Pair {
     pub left: Box<dyn Side>,
     pub right: Box<dyn Side>,
-    /// Where one side is the library: a store of the same words, which takes the held forms.
-    held: Option<Store>,
+    /// Where one side has held forms: who makes them, over the same words.
+    held: Option<Holder>,
     /// How many of those were made.
     pub held_calls: u64,
     /// What the last call left in the buffer that it was lent.
@@ -36,6 +38,8 @@ pub struct Pair {
     pub steps: Steps,
     /// Of its reads.
     pub reads: Reads,
+    /// Of its own numbers.
+    pub owns: Owns,
     pub watch: Watch,
     /// Flushes that it took, of images that were not the received page.
     pub unlike_flushes: u64,
@@ -44,7 +48,7 @@ pub struct Pair {
 }
 
 /// Answer numbers: 0 and the refusals.
-const NUMBERS: usize = 18;
+const NUMBERS: usize = 19;
 
 /// The answers that a run saw, by call and answer number (the last for others), and what it reached.
 #[derive(Clone, Default)]
@@ -60,6 +64,8 @@ pub struct Tally {
     pub full_passes: u64,
     pub unlike_flushes: u64,
     pub reads_again: u64,
+    /// Own numbers overwritten, put back, reopened and swept.
+    pub owns: [u64; 4],
 }
 
 /// Who reads the page that a sweeping step would meet, if the pass sweeps.
@@ -80,6 +86,9 @@ impl Tally {
         self.full_passes += pair.steps.full_passes;
         self.unlike_flushes += pair.unlike_flushes;
         self.reads_again += pair.reads.again;
+        let Owns { overwritten, put_back, reopened, swept, .. } = pair.owns;
+        let counted = [overwritten, put_back, reopened, swept];
+        self.owns.iter_mut().zip(counted).for_each(|(all, more)| *all += more);
     }
 
     /// An action and its answer, and who read the page that a sweeping step met, where the pass swept.
@@ -120,6 +129,10 @@ impl Tally {
             "{} of the slots on pages that were read, {} images taken that were not the received page, {} reads held to one before",
             self.freed_read, self.unlike_flushes, self.reads_again
         );
+        let [overwritten, put_back, reopened, swept] = self.owns;
+        println!(
+            "own numbers: {overwritten} overwritten, {put_back} put back, {reopened} reopened, {swept} swept"
+        );
     }
 }
 
@@ -142,7 +155,7 @@ pub fn unlike(left: &[u32], right: &[u32]) -> Result<(), String> {
 
 impl Pair {
     pub fn new(left: Kind, right: Kind, pages: usize, records: usize) -> Pair {
-        let held = [left, right].contains(&Kind::Library).then(|| Store::new(pages, records));
+        let held = [right, left].into_iter().find_map(|kind| kind.holder(pages, records));
         Pair {
             left: left.make(pages, records),
             right: right.make(pages, records),
@@ -151,6 +164,7 @@ impl Pair {
             buffer: Vec::new(),
             steps: Steps::default(),
             reads: Reads::default(),
+            owns: Owns::default(),
             watch: Watch::All,
             unlike_flushes: 0,
             pages,
@@ -159,7 +173,7 @@ impl Pair {
     }
 
     fn sides(&mut self) -> impl Iterator<Item = &mut (dyn Side + 'static)> + '_ {
-        let held = self.held.as_mut().map(|store| store as &mut dyn Side);
+        let held = self.held.as_mut().map(Holder::side_mut);
         [&mut *self.left, &mut *self.right].into_iter().chain(held)
     }
 
@@ -170,15 +184,20 @@ impl Pair {
         areas
     }
 
-    /// Does the action on both sides: the left side's answer, or what differs, or what does not hold of its steps or
-    /// its reads.
+    /// Does the action on both sides: the left side's answer, or what differs, or what does not hold of its steps, its
+    /// reads or its own numbers.
     pub fn step(&mut self, action: &Action) -> Result<u64, String> {
         let answer = self.act(action)?;
-        if self.watch != Watch::Reads {
+        let watched = |watch| [Watch::All, watch].contains(&self.watch);
+        let [steps, reads, owns] = [Watch::Steps, Watch::Reads, Watch::Owns].map(watched);
+        if steps {
             self.steps.after(action, answer, &mut *self.left)?;
         }
-        if self.watch != Watch::Steps {
+        if reads {
             self.reads.after(action, answer, &self.buffer)?;
+        }
+        if owns {
+            self.owns.after(action, answer, &*self.left)?;
         }
         Ok(answer)
     }
@@ -229,6 +248,7 @@ impl Pair {
     pub fn load(&mut self, areas: &Areas) {
         self.steps = Steps::default();
         self.reads = Reads::default();
+        self.owns.forget();
         for side in self.sides() {
             AREAS.iter().for_each(|&area| side.area_mut(area).clone_from(areas.of(area)));
         }
@@ -258,14 +278,12 @@ impl Pair {
     /// The held form of a call, held to the answer and the buffer that the call gave. Where the sides agree on
     /// refusal 1 there is none: the store may not be well formed.
     fn held_call(&mut self, request: &Request, image: &[u32], answer: u64) -> Result<(), String> {
-        let Some(store) = self.held.take_if(|_| answer >> 32 != 1) else { return Ok(()) };
-        let (call, mut buffer) = (request.call, unwritten(request.buffer()));
+        let Some(holder) = self.held.take_if(|_| answer >> 32 != 1) else { return Ok(()) };
+        let mut buffer = unwritten(request.buffer());
         // SAFETY: well formed, since both sides have found it so.
-        let mut held = unsafe { Held::assume(store) };
-        let made = call.on_held(&mut held, Lent { buffer: &mut buffer, image });
-        self.held_calls += u64::from(made.is_some());
-        let store = self.held.insert(held.into_store());
-        let made = made.unwrap_or_else(|| call.on_library(store, Lent { buffer: &mut buffer, image }));
+        let (holder, made) = unsafe { holder.perform(request.call, Lent { buffer: &mut buffer, image }) };
+        self.held = Some(holder);
+        self.held_calls += u64::from(request.call.can_be_held());
         if made != answer {
             return Err(format!("answers {} and {}", show(answer), show(made)));
         }
@@ -275,7 +293,7 @@ impl Pair {
     /// Whether every side has the left one's words.
     fn compare(&self) -> Result<(), String> {
         self.compare_with(&*self.right)?;
-        let held = self.held.as_ref().map_or(Ok(()), |store| self.compare_with(store));
+        let held = self.held.as_ref().map_or(Ok(()), |holder| self.compare_with(holder.side()));
         held.map_err(|what| format!("held: {what}"))
     }
 

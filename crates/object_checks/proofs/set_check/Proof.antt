@@ -1,5 +1,6 @@
 use native.Mathlib.Omega.{arith}
-use mathlib.Core.Path.{refl, sym, _∙_}
+use mathlib.Core.Path.{refl, sym, ap, _∙_}
+use mathlib.Core.Bool.{not}
 use borrow.Author.Tests.{not-true, not-false}
 use Rattle.areas.specs.Answers.{all-passed, need-holds, need-fails}
 use Rattle.words.specs.Tests.{and-l, and-cong}
@@ -43,11 +44,15 @@ returns-4 c = need-fails _ _ _ _ (sym (and-cong (c .before .before .knows .ensur
 
 returns-5 : tie.Need-returns-5
 unfolding setTests
-returns-5 c = need-fails _ _ _ _ (sym (c .before .room-beyond .ensures ∙ room-in _ _ _ _ _ _ _ _) ∙ not-true _ (c .if5 .taken)) ∙ need-holds _ _ _ _ (sym (and-cong (c .before .before .before .before .knows .ensures) (c .before .before .before .may-write .ensures)) ∙ not-false _ (c .before .before .if4 .left)) ∙ need-holds _ _ _ _ (sym (c .before .before .before .before .before .before .can-write .ensures) ∙ not-false _ (c .before .before .before .before .before .if3 .left)) ∙ need-holds _ _ _ _ (sym (c .before .before .before .before .before .before .before .before .has .ensures) ∙ not-false _ (c .before .before .before .before .before .before .before .if2 .left)) ∙ need-holds _ _ _ _ (sym (and-cong (c .before .before .before .before .before .before .before .before .before .before .in-range .ensures) refl) ∙ not-false _ (c .before .before .before .before .before .before .before .before .before .if1 .left))
+returns-5 c = need-fails _ _ _ _ (ap not (sym (c .before .names-itself .ensures) ∙ c .if5 .taken)) ∙ need-holds _ _ _ _ (sym (and-cong (c .before .before .before .before .knows .ensures) (c .before .before .before .may-write .ensures)) ∙ not-false _ (c .before .before .if4 .left)) ∙ need-holds _ _ _ _ (sym (c .before .before .before .before .before .before .can-write .ensures) ∙ not-false _ (c .before .before .before .before .before .if3 .left)) ∙ need-holds _ _ _ _ (sym (c .before .before .before .before .before .before .before .before .has .ensures) ∙ not-false _ (c .before .before .before .before .before .before .before .if2 .left)) ∙ need-holds _ _ _ _ (sym (and-cong (c .before .before .before .before .before .before .before .before .before .before .in-range .ensures) refl) ∙ not-false _ (c .before .before .before .before .before .before .before .before .before .if1 .left))
 
 returns-6 : tie.Need-returns-6
 unfolding setTests
-returns-6 c = all-passed ∙ need-holds _ _ _ _ (sym (c .before .room-beyond .ensures ∙ room-in _ _ _ _ _ _ _ _) ∙ not-false _ (c .if5 .left)) ∙ need-holds _ _ _ _ (sym (and-cong (c .before .before .before .before .knows .ensures) (c .before .before .before .may-write .ensures)) ∙ not-false _ (c .before .before .if4 .left)) ∙ need-holds _ _ _ _ (sym (c .before .before .before .before .before .before .can-write .ensures) ∙ not-false _ (c .before .before .before .before .before .if3 .left)) ∙ need-holds _ _ _ _ (sym (c .before .before .before .before .before .before .before .before .has .ensures) ∙ not-false _ (c .before .before .before .before .before .before .before .if2 .left)) ∙ need-holds _ _ _ _ (sym (and-cong (c .before .before .before .before .before .before .before .before .before .before .in-range .ensures) refl) ∙ not-false _ (c .before .before .before .before .before .before .before .before .before .if1 .left))
+returns-6 c = need-fails _ _ _ _ (sym (c .before .room-beyond .ensures ∙ room-in _ _ _ _ _ _ _ _) ∙ not-true _ (c .if6 .taken)) ∙ need-holds _ _ _ _ (ap not (sym (c .before .before .before .names-itself .ensures) ∙ c .before .before .if5 .left)) ∙ need-holds _ _ _ _ (sym (and-cong (c .before .before .before .before .before .before .knows .ensures) (c .before .before .before .before .before .may-write .ensures)) ∙ not-false _ (c .before .before .before .before .if4 .left)) ∙ need-holds _ _ _ _ (sym (c .before .before .before .before .before .before .before .before .can-write .ensures) ∙ not-false _ (c .before .before .before .before .before .before .before .if3 .left)) ∙ need-holds _ _ _ _ (sym (c .before .before .before .before .before .before .before .before .before .before .has .ensures) ∙ not-false _ (c .before .before .before .before .before .before .before .before .before .if2 .left)) ∙ need-holds _ _ _ _ (sym (and-cong (c .before .before .before .before .before .before .before .before .before .before .before .before .in-range .ensures) refl) ∙ not-false _ (c .before .before .before .before .before .before .before .before .before .before .before .if1 .left))
+
+returns-7 : tie.Need-returns-7
+unfolding setTests
+returns-7 c = all-passed ∙ need-holds _ _ _ _ (sym (c .before .room-beyond .ensures ∙ room-in _ _ _ _ _ _ _ _) ∙ not-false _ (c .if6 .left)) ∙ need-holds _ _ _ _ (ap not (sym (c .before .before .before .names-itself .ensures) ∙ c .before .before .if5 .left)) ∙ need-holds _ _ _ _ (sym (and-cong (c .before .before .before .before .before .before .knows .ensures) (c .before .before .before .before .before .may-write .ensures)) ∙ not-false _ (c .before .before .before .before .if4 .left)) ∙ need-holds _ _ _ _ (sym (c .before .before .before .before .before .before .before .before .can-write .ensures) ∙ not-false _ (c .before .before .before .before .before .before .before .if3 .left)) ∙ need-holds _ _ _ _ (sym (c .before .before .before .before .before .before .before .before .before .before .has .ensures) ∙ not-false _ (c .before .before .before .before .before .before .before .before .before .if2 .left)) ∙ need-holds _ _ _ _ (sym (and-cong (c .before .before .before .before .before .before .before .before .before .before .before .before .in-range .ensures) refl) ∙ not-false _ (c .before .before .before .before .before .before .before .before .before .before .before .if1 .left))
 
 pub set-check-spec : {M : Type 1} → statement M
 set-check-spec =
@@ -65,4 +70,6 @@ set-check-spec =
     returns-4
     (λ c κs. search needs)
     returns-5
-    returns-6)
+    (λ c κs. search needs)
+    returns-6
+    returns-7)

@@ -1,0 +1,3 @@
+-- The proofs of the statements.
+pub mod Sets
+pub mod OldOnes
