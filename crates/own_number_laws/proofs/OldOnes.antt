@@ -2,7 +2,7 @@
 use Prim.Native.Nat.{ℕ, _*_, _≤_, _<_}
 use native.Mathlib.Omega.{arith}
 use mathlib.Core.Path.{_≡_, refl, sym, ap, _∙_}
-use mathlib.Core.Bool.{Bool, true, false}
+use mathlib.Core.Bool.{true, false}
 use mathlib.Core.List.{List}
 use lib.ListN.{length, length-set}
 use lib.Seq.{set-set}
@@ -40,12 +40,6 @@ old-records-sound = record {
   old = λ n t o f x. by-bool (isObject n o) (λ h. rw (in-range n o h, zero-in-range n) refl) (λ h. unsound n t o f o x h ∙ sym (unsound n t o f 0 x h));
 }
 
--- two tests, each of which passes where the other does
-alike : (a b : Bool) → (a ≡ true → b ≡ true) → (b ≡ true → a ≡ true) → a ≡ b
-alike true b f g = sym (f refl)
-alike false true f g = g refl
-alike false false f g = refl
-
 module _ (n : ℕ) (a : List ℕ) (len : length a ≡ pageWords * n) (o f : ℕ) (h : isObject n o ≡ true) (w : f < slotWords) (there : occupied a o ≡ true) where
   -- one word written over another
   rewritten : (x y : ℕ) → y ≤ objectCount n → areaSound (written a o f x) n ≡ true → areaSound (written a o f y) n ≡ true
@@ -56,5 +50,6 @@ module _ (n : ℕ) (a : List ℕ) (len : length a ≡ pageWords * n) (o f : ℕ)
       ∙ written-sound n (written a o f x) p s o (k .low) (k .top) f y w (occupied-written n a o len (k .low) (k .top) f x w o ∙ there) (λ r. l)
 
 pub old-pages-sound : OldPagesSound
-old-pages-sound n a len o f h w there = alike (areaSound (written a o f o) n) (areaSound (written a o f 0) n)
-    (rewritten n a len o f h w there o 0 (omega arith)) (rewritten n a len o f h w there 0 o (object-facts n o h .top))
+old-pages-sound n a len o f h w there = by-bool (areaSound (written a o f 0) n)
+    (λ e. rewritten n a len o f h w there 0 o (object-facts n o h .top) e ∙ sym e)
+    (λ e. by-bool (areaSound (written a o f o) n) (λ d. clash (rewritten n a len o f h w there o 0 (omega arith) d) e) (λ d. d ∙ sym e))
