@@ -4,12 +4,12 @@ use Prim.Native.Nat.{ℕ, _+_, _*_, _-_, _/_, _%_, _^_, _≤_, _<_}
 use native.Mathlib.Omega.{arith}
 use native.Mathlib.Decide.{ℕ-discrete}
 use mathlib.Core.Path.{_≡_, refl, sym, ap, _∙_, subst}
-use mathlib.Core.Bool.{true, false, _&&_}
+use mathlib.Core.Bool.{true, false, not, _&&_}
 use mathlib.Core.List.{List}
 use lib.ListN.{length}
-use lib.Dec.{eqb}
-use borrow.Author.Tests.{eq-eqb, eqb-true}
-use Rattle.words.specs.Tests.{by-bool, clash, and-split, any-intro}
+use lib.Dec.{eqb, ltb}
+use borrow.Author.Tests.{eq-eqb, eqb-true, lt-ltb, le-leb}
+use Rattle.words.specs.Tests.{by-bool, clash, and-split, any, any-intro, any-elim}
 use Rattle.words.specs.Bits.{bit, bits-same}
 use Rattle.pages.specs.Geometry.{pageWords, slotWords, slotCount, pageAt, slotAt, objectAt, pageOf, slotOf}
 use Rattle.pages.specs.Objects.{mapAt, slotWord}
@@ -18,16 +18,17 @@ use Rattle.page_laws.specs.SoundFacts.{sound-facts}
 use Rattle.page_laws.specs.Tables.{row-at}
 use Rattle.records.specs.Records.{txnCount}
 use Rattle.areas.specs.declared.Answer.the-variants.{Done}
-use Rattle.areas.specs.Answers.{accepted}
-use Rattle.areas.specs.Areas.{Areas, Out, appended}
-use Rattle.areas.specs.Layout.{reading, writing}
+use Rattle.areas.specs.declared.Check.the-variants.{Accept}
+use Rattle.areas.specs.Answers.{accepted, verdict, all-passed, need-holds}
+use Rattle.areas.specs.Areas.{Areas, Out, done, withWork, appended}
+use Rattle.areas.specs.Layout.{clientCount, reading, writing}
 use Rattle.areas.specs.Tables.{at, isActive}
-use Rattle.areas.specs.Entry.{pages}
+use Rattle.areas.specs.Entry.{pages, called-passed}
 use Rattle.calls.specs.Calls.{Call, reopens, perform}
 use Rattle.calls.specs.Calls.Call.{begin, commit, abort, grant, lockRead, lockWrite, read, create, setWord, flush, force, store, empty, pass, step, reopen, restep, mark, back, look}
 use Rattle.calls.specs.Marks.{markSet, sinceMark, wentBack, backTo}
 use Rattle.calls.specs.Objects.{callRead, objectWords, bufferAfter, created, wordSet, flushed}
-use Rattle.calls.specs.Rights.{hasActive, clientOf}
+use Rattle.calls.specs.Rights.{isClient, isRight, clientOf, hasActive, grantTests, rightGiven, callGrant}
 use Rattle.calls.specs.Transactions.{begun, committed, changesOf, aborted}
 use Rattle.acceptance.specs.Calls.{refused-keeps}
 use Rattle.acceptance.specs.Entered.{opened}
@@ -42,8 +43,10 @@ use Rattle.book.specs.Books as Books
 use Rattle.book.specs.Feeding.{fed}
 use Rattle.book.specs.Demand.{Event, call, power, Point, accepts, after}
 use Rattle.machine_calls.specs.Tables.{locksOf, tablesOf}
-use Rattle.demand.proofs.State.{OpenInv, Inv3}
+use Rattle.machine_calls.proofs.Facts.{act-is}
+use Rattle.demand.proofs.State.{machine, OpenInv, Inv3}
 use Rattle.demand.proofs.State.{open-store, cut-store, reopening-store}
+use Rattle.demand.proofs.Change.{machine-shows}
 use Rattle.demand.proofs.GoneBack.{rolled-went}
 use Rattle.demand.proofs.HoldsWaiting.{awaiting-opened, storing-opened}
 use Rattle.guarantees.specs.Sameness.{SameObject}
@@ -56,6 +59,7 @@ use Rattle.guarantees.specs.Ledgers.{kept}
 use Rattle.guarantees.proofs.Always.{Sure, keep-sure}
 use Rattle.guarantees.proofs.Closing.{here, closed-after}
 use Rattle.guarantees.proofs.Through.{through}
+use Rattle.guarantees.proofs.Refusals.{formed}
 use Rattle.guarantees.proofs.Stable.{rolled-stored}
 use Rattle.guarantees.proofs.Untouched.{Stays, unwritten-stays}
 use Rattle.guarantees.proofs.Restoring.{same-object}
@@ -145,6 +149,11 @@ open-after : (n : ℕ) (s : Areas) (b : Book) → Inv3 n s b → ((b .stage ≡ 
 open-after n s b (open-store i) f = i
 open-after n s b (cut-store i) f = absurd (f (λ e. awaiting-opened (sym (i .stage) ∙ e)))
 open-after n s b (reopening-store k l i) f = absurd (f (λ e. storing-opened (sym (i .stage) ∙ e)))
+
+-- a change of a right whose tests hold
+granting-passes : (s : Areas) (n c p r : ℕ) → isClient c && ltb p n && isRight r ≡ true → hasActive (s .work) n c ≡ false → Accept ≡ verdict (grantTests s n c p r)
+unfolding grantTests
+granting-passes s n c p r h f = all-passed ∙ need-holds _ _ _ _ (ap not f) ∙ need-holds _ _ _ _ h
 
 -- at a point
 module _ (n : ℕ) (q : Point) (g : Granted) (l : Permits) (z : Sure n q) (j : Lawful n q (g, l)) where
@@ -236,8 +245,25 @@ module _ (n : ℕ) (q : Point) (g : Granted) (l : Permits) (z : Sure n q) (j : L
       (rw (active-bit n s b i (z .fine) g (j .ledgered .agrees) t run) (eq-eqb (clientOf (s .work) n t) (l .client t) (j .permitted .clients t small run)))) (f .idle))
       (λ a. a)
 
+  -- a client's active transaction runs as that client
+  idle : OpenInv n s b → (c : ℕ) → ((t : ℕ) → Running q t → l .client t ≡ c → ⊥) → hasActive (s .work) n c ≡ false
+  unfolding hasActive
+  idle i c none = by-bool (any (λ u. isActive (s .work) u && eqb (clientOf (s .work) n u) c) txnCount)
+      (λ e. any-elim (λ u. isActive (s .work) u && eqb (clientOf (s .work) n u) c) txnCount e (λ t small d.
+      let k = and-split (isActive (s .work) t) (eqb (clientOf (s .work) n t) c) d in
+      let run = i .active t (act-is s n (machine n s b) (machine-shows n s b) t small ∙ k .0) in
+      absurd (none t run (sym (j .permitted .clients t small run) ∙ eqb-true _ _ (k .1)))))
+      (λ e. e)
+
+  changes-so : (c p r : ℕ) → c < clientCount → p < pages s → r ≤ writing → b .stage ≡ Books.opened → ((t : ℕ) → Running q t → l .client t ≡ c → ⊥) → accepts q (grant c p r) ≡ true
+  unfolding perform callGrant
+  changes-so c p r small below top st none =
+      let i = open-after n s b (z .inv) (λ f. f st) in
+      sym (ap (λ (o : Out). accepted (o .answer)) (called-passed true true s (λ m. grantTests s m c p r) (λ m. done 0 (withWork s (rightGiven (s .work) m c p r))) (formed n s b (z .fine) true refl) (eq-eqb _ _ (i .word))
+      (granting-passes s (pages s) c p r (rw (lt-ltb c clientCount small, lt-ltb p (pages s) below) (le-leb r writing top)) (rw (i .size) (idle i c none)))))
+
   isolated : Isolated q l
-  isolated = record { reads = read-right; shows = hands-out; writes = writes-so; steady = steady-so }
+  isolated = record { reads = read-right; shows = hands-out; writes = writes-so; steady = steady-so; changes = changes-so }
 
 -- with the ledger of locks beside it
 record Beside (n : ℕ) (q : Point) (l : Permits) : Type 0 where

@@ -9,11 +9,12 @@ use Rattle.pages.specs.Geometry.{pageOf, slotWords}
 use Rattle.pages.specs.Objects.{wordOf}
 use Rattle.areas.specs.declared.Answer.the-variants.{Done}
 use Rattle.areas.specs.Areas.{Areas}
-use Rattle.areas.specs.Layout.{reading, writing}
+use Rattle.areas.specs.Layout.{clientCount, reading, writing}
 use Rattle.areas.specs.Tables.{at}
 use Rattle.areas.specs.Entry.{pages}
 use Rattle.calls.specs.Objects.{bufferAfter}
 use Rattle.calls.specs.Calls.{Call, perform, grant, read}
+use Rattle.book.specs.Books.{opened}
 use Rattle.book.specs.Demand.{Point, accepts}
 use Rattle.guarantees.specs.Ledgers.{AlwaysKept}
 use Rattle.guarantees.specs.Permits.{Permits, permits, rightOf}
@@ -42,6 +43,8 @@ pub record Isolated (q : Point) (l : Permits) : Type 0 where
   pub writes : (t p : ℕ) (c : Call) → own t c ≡ true → p < pages (q .store) → rightOf l t p < writing → PageStays p (q .store) (perform (q .store) c .after)
   -- 'a call changes one entry, only for a client without an active transaction'
   pub steady : (t p r : ℕ) → Running q t → accepts q (grant (l .client t) p r) ≡ false
+  pub changes : (c p r : ℕ) → c < clientCount → p < pages (q .store) → r ≤ writing → q .book .stage ≡ opened → ((t : ℕ) → Running q t → l .client t ≡ c → ⊥)
+      → accepts q (grant c p r) ≡ true
 
 abbrev pub AlwaysIsolated : Type 0
 AlwaysIsolated = AlwaysKept Permits permits Isolated
