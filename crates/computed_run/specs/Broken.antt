@@ -1,7 +1,6 @@
 -- A disk that reopening accepts and that no server should start from, computed: the root names a free slot. A transaction comes to know
 -- that slot by reading and sets a word there (DECISIONS 8); a free slot is not zero then, and a lent call answers 1. So the condition that
 -- whatever the root reaches is occupied is needed (crates/guarantees/specs/Disks.antt). Assumes nothing.
-use Prim.Native.Nat.{ℕ}
 use mathlib.Core.Path.{_≡_, refl}
 use mathlib.Core.Bool.{true, not}
 use mathlib.Core.List.{List, [], _∷_}

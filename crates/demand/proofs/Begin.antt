@@ -18,8 +18,7 @@ use Rattle.records.specs.Effects.{effect}
 use Rattle.records.specs.Order.{openIn}
 use Rattle.areas.specs.Answers.{accepted}
 use Rattle.areas.specs.Areas.{Areas, Out, receivedCount, withWork, appended}
-use Rattle.areas.specs.Layout.{activeAt}
-use Rattle.areas.specs.Tables.{gain, undoes}
+use Rattle.areas.specs.Tables.{undoes}
 use Rattle.calls.specs.Calls.{begin}
 use Rattle.calls.specs.Transactions.{callBegin, begun, begunTables}
 use Rattle.acceptance.specs.Entered.{Open, opened}

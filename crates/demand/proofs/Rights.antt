@@ -5,11 +5,10 @@ use native.Mathlib.Omega.{arith}
 use mathlib.Core.Path.{_≡_, sym, ap, _∙_}
 use mathlib.Core.Bool.{true}
 use mathlib.Core.List.{List}
-use lib.ListN.{set}
 use lib.Seq.{getD-set-other}
 use Rattle.areas.specs.Answers.{accepted}
 use Rattle.areas.specs.Areas.{Areas, Out, withWork}
-use Rattle.areas.specs.Layout.{markedAt, orderAt, rightsFrom, rightAt, tableWords, undoingFrom}
+use Rattle.areas.specs.Layout.{markedAt, orderAt, rightAt}
 use Rattle.calls.specs.Calls.{grant}
 use Rattle.calls.specs.Rights.{rightGiven, callGrant}
 use Rattle.acceptance.specs.Entered.{opened}

@@ -2,25 +2,20 @@
 use Prim.Native.Nat.{ℕ, _<_}
 use native.Mathlib.Omega.{arith}
 use mathlib.Core.Path.{_≡_, refl, sym, ap, _∙_}
-use mathlib.Core.Bool.{Bool, true, false, not, _&&_}
+use mathlib.Core.Bool.{Bool, true, not, _&&_}
 use mathlib.Core.List.{List}
 use mathlib.Core.Logic.{inl, inr}
-use lib.Dec.{eqb, ltb}
-use borrow.Author.Tests.{eq-eqb, lt-ltb}
-use Rattle.words.specs.Tests.{if, any, lowest, clash, and-split, or-cases, any-same, any-elim}
+use lib.Dec.{eqb}
+use Rattle.words.specs.Tests.{lowest, clash, and-split, or-cases, any-elim}
 use Rattle.words.specs.Bits.{bit}
 use Rattle.words.specs.Lowest.{lowest-same}
 use Rattle.records.specs.Records.{txnCount}
-use Rattle.areas.specs.declared.Refusal.the-variants.{Held}
-use Rattle.areas.specs.declared.Answer.the-variants.{Done, Refused}
-use Rattle.areas.specs.declared.Check.the-variants.{Accept}
-use Rattle.areas.specs.Answers.{unless}
-use Rattle.areas.specs.Areas.{Areas, done, checked, withWork}
+use Rattle.areas.specs.Areas.{Areas}
 use Rattle.areas.specs.Layout.{readersAt, writersAt}
-use Rattle.areas.specs.Tables.{at, isTxn, isActive, canRead}
-use Rattle.areas.specs.Entry.{pages, records, wellFormed, isReady}
-use Rattle.calls.specs.Locks.{noOther, holderOf, readLocked, writeLocked}
-use Rattle.calls.specs.Calls.{perform, lockRead, lockWrite}
+use Rattle.areas.specs.Tables.{at, isActive, canRead}
+use Rattle.areas.specs.Entry.{pages, records}
+use Rattle.calls.specs.Locks.{holderOf}
+use Rattle.calls.specs.Calls.{lockRead, lockWrite}
 use Rattle.acceptance.specs.Entered.{open-formed}
 use Rattle.acceptance.specs.Working.{Working}
 use Rattle.book.specs.Books.{Book}
@@ -32,13 +27,12 @@ use Rattle.machine_calls.proofs.Facts.{act-is}
 use Rattle.demand.proofs.State.{machine, OpenInv, Inv3, open-store, cut-store, reopening-store}
 use Rattle.demand.proofs.Change.{machine-shows}
 use Rattle.demand.proofs.HoldsWaiting.{awaiting-opened, storing-opened}
-use Rattle.guarantees.specs.Holders.{Barred, Lowest, Granted, grants, holds, other, answerBy, ByLedger, AlwaysByLedger}
+use Rattle.guarantees.specs.Holders.{Barred, Lowest, Granted, holds, other}
 use Rattle.guarantees.proofs.Fine.{Fine}
 use Rattle.guarantees.proofs.Always.{Sure}
 use Rattle.guarantees.proofs.Refusals.{formed}
-use Rattle.guarantees.proofs.Barred.{Tests, tested, read-tested, write-tested, free-one, free-both, read-stopped, write-stopped, page-in, read-barred, read-tells, write-tells}
-use Rattle.guarantees.proofs.Ledgers.{always-kept}
-use Rattle.guarantees.proofs.Granted.{Agrees, Closed, Ledgered, keep-ledger, start-ledger, disk-ledger}
+use Rattle.guarantees.proofs.Barred.{read-stopped, write-stopped, page-in, read-barred, read-tells, write-tells}
+use Rattle.guarantees.proofs.Granted.{Agrees, Closed, Ledgered}
 
 -- the masks of page p, by the ledger
 module _ (n : ℕ) (w : List ℕ) (l : Granted) (a : Agrees n w l) (p : ℕ) (below : p < n) where

@@ -1,6 +1,6 @@
 -- What a running transaction that asks for a lock is answered, by the ledgers of locks and of rights, at every point of every list. n is the
 -- number of pages. Assumes nothing.
-use Prim.Native.Nat.{ℕ, _<_, _≤_}
+use Prim.Native.Nat.{ℕ, _<_}
 use mathlib.Core.Path.{_≡_, refl, sym, ap, _∙_}
 use mathlib.Core.Bool.{Bool, true, false, not, _&&_}
 use lib.Dec.{eqb, leb, ltb}

@@ -14,8 +14,8 @@ use Rattle.pages.specs.Geometry.{pageOf}
 use Rattle.records.specs.declared.Record.{Record}
 use Rattle.records.specs.Records.{txnCount, beginOf, commitOf, abortedOf, isSweep}
 use Rattle.areas.specs.Areas.{Areas}
-use Rattle.areas.specs.Layout.{activeAt, markCount, orderAt, undoingFrom}
-use Rattle.areas.specs.Tables.{gain, isActive}
+use Rattle.areas.specs.Layout.{markCount, orderAt, undoingFrom}
+use Rattle.areas.specs.Tables.{isActive}
 use Rattle.calls.specs.Calls.Call.{begin, commit, abort}
 use Rattle.calls.specs.Marks.{orderOf}
 use Rattle.calls.specs.Transactions.{begunTables, endedTables}

@@ -11,16 +11,16 @@ use lib.ListN.{length, set, replicate}
 use lib.Seq.{getD-set-same, getD-set-other}
 use lib.Dec.{eqb, leb, ltb}
 use borrow.Author.Tests.{eq-eqb, eqb-true, ne-eqb, leb-true}
-use Rattle.words.specs.Tests.{by-bool, clash, and-split, or-true, or-cases, any-intro}
+use Rattle.words.specs.Tests.{by-bool, clash, and-split, or-l, or-r, or-cases, any-intro}
 use Rattle.words.specs.Spans.{zero-at}
 use Rattle.pages.specs.Geometry.{pageWords, slotWords}
 use Rattle.records.specs.Records.{txnCount}
 use Rattle.areas.specs.Answers.{accepted}
 use Rattle.areas.specs.Areas.{Areas, Out}
-use Rattle.areas.specs.Layout.{reopeningAt, reopeningPageAt, finished, phaseAt, tableWords, markCount, clientCount, clientsFrom, clientAt, rightsFrom, rightAt, reading, writing, undoingFrom, undoingAt, workWords}
+use Rattle.areas.specs.Layout.{reopeningAt, reopeningPageAt, finished, phaseAt, markCount, clientCount, clientsFrom, clientAt, rightAt, reading, writing, undoingFrom, undoingAt, workWords}
 use Rattle.areas.specs.Tables.{at, isActive}
 use Rattle.areas.specs.Entry.{pages, records}
-use Rattle.calls.specs.Calls.{Call, reopens, perform}
+use Rattle.calls.specs.Calls.{Call, perform}
 use Rattle.calls.specs.Calls.Call.{begin, commit, abort, grant, lockRead, lockWrite, read, create, setWord, flush, force, store, empty, pass, step, reopen, restep, mark, back, look}
 use Rattle.calls.specs.Formatting.{formatted, cut}
 use Rattle.calls.specs.Marks.{markSet, backTo}
@@ -130,7 +130,7 @@ module _ (n : ℕ) (some : 1 ≤ n) (s : Areas) (b : Book) (i : OpenInv n s b) (
       | no e ↦ rw (ne-eqb u t e) (begin-behind w n t some c (f .txn) (clientAt n u) (omega arith) (λ d. e (omega arith)) ∙ j .clients u x (rw (ne-eqb u t e) at r))
     ];
     reads = λ u p e. rw (rightOf, ne-eqb u t (lockless u p e)) (j .reads u p e);
-    writes = λ u p e. rw (rightOf, ne-eqb u t (lockless u p (writer-holds u p e))) (j .writes u p e);
+    writes = λ u p e. rw (rightOf, ne-eqb u t (lockless u p (or-r (g .reads u p) (g .writes u p) e))) (j .writes u p e);
   }
     where
       idle : b .running t ≡ 0
@@ -138,9 +138,6 @@ module _ (n : ℕ) (some : 1 ≤ n) (s : Areas) (b : Book) (i : OpenInv n s b) (
 
       lockless : (u p : ℕ) → holds g u p ≡ true → u ≡ t → ⊥
       lockless u p e d = runs u p e (rw d idle)
-
-      writer-holds : (u p : ℕ) → g .writes u p ≡ true → holds g u p ≡ true
-      writer-holds u p e = rw e (or-true (g .reads u p))
 
   -- an end
   ended-permitted : (t : ℕ) → t < txnCount → (b′ : Book) → ((u : ℕ) → Runs b′ u → (u ≡ t → ⊥) × Runs b u) → Permitted n (endedTables w n t) b′ (fallen g t) l
@@ -168,7 +165,7 @@ module _ (n : ℕ) (some : 1 ≤ n) (s : Areas) (b : Book) (i : OpenInv n s b) (
     ];
     clients = λ t x k. getD-set-other w (rightAt n c p) (clientAt n t) r 0 (λ o. omega arith) ∙ j .clients t x k;
     reads = λ t q e. rw (ne-eqb (l .client t) c (other t (runs t q e))) (j .reads t q e);
-    writes = λ t q e. rw (ne-eqb (l .client t) c (other t (runs t q (rw e (or-true (g .reads t q)))))) (j .writes t q e);
+    writes = λ t q e. rw (ne-eqb (l .client t) c (other t (runs t q (or-r (g .reads t q) (g .writes t q) e)))) (j .writes t q e);
   }
     where
       other : (t : ℕ) → Runs b t → l .client t ≡ c → ⊥
@@ -178,45 +175,41 @@ module _ (n : ℕ) (some : 1 ≤ n) (s : Areas) (b : Book) (i : OpenInv n s b) (
   active-runs : (t : ℕ) → t < txnCount → isActive w t ≡ true → Runs b t
   active-runs t small e = i .active t (act-is s n (machine n s b) (machine-shows n s b) t small ∙ e)
 
+  -- the right that a lock was let through with
+  may : (t p right : ℕ) → t < txnCount → isActive w t ≡ true → p < n → mayLock w n t p right ≡ true → right ≤ rightOf l t p
+  may t p right small e below m = leb-true right (rightOf l t p) (sym (right-by n s b i z g a l j t p right (active-runs t small e) below) ∙ m)
+
+  -- the one entry that it adds
+  added : (t p right : ℕ) → right ≤ rightOf l t p → (u q : ℕ) → eqb u t && eqb q p ≡ true → right ≤ rightOf l u q
+  added t p right m u q e = let x = and-split (eqb u t) (eqb q p) e in rw (eqb-true u t (x .0), eqb-true q p (x .1)) m
+
   read-permitted : (t p : ℕ) → LockReadFacts s n t p → (v : List ℕ) → Stay n w v → Permitted n v b (granting g (lockRead t p)) l
   read-permitted t p f v e = let k = quietly n w v b b g l e refl j in record {
     rights = k .rights;
     clients = k .clients;
-    reads = λ u q d. by-bool (holds g u q)
-        (λ o. j .reads u q o)
-        (λ o. let x = and-split (eqb u t) (eqb q p) (new (g .reads u q) (g .writes u q) (eqb u t && eqb q p) o d) in
-        rw (eqb-true u t (x .0), eqb-true q p (x .1)) (leb-true reading (rightOf l t p) (sym (right-by n s b i z g a l j t p reading (active-runs t (f .txn) (f .active)) (f .page)) ∙ f .right)));
+    reads = λ u q d. elim (or-cases (g .reads u q || (eqb u t && eqb q p)) (g .writes u q) d) [
+      | inl c ↦ elim (or-cases (g .reads u q) (eqb u t && eqb q p) c) [
+        | inl o ↦ j .reads u q (or-l (g .reads u q) (g .writes u q) o)
+        | inr o ↦ added t p reading (may t p reading (f .txn) (f .active) (f .page) (f .right)) u q o
+      ]
+      | inr o ↦ j .reads u q (or-r (g .reads u q) (g .writes u q) o)
+    ];
     writes = j .writes;
   }
-    where
-      new : (r w x : Bool) → (r || w) ≡ false → ((r || x) || w) ≡ true → x ≡ true
-      new true w x o d = clash refl o
-      new false true x o d = clash refl o
-      new false false true o d = refl
-      new false false false o d = clash d refl
 
   write-permitted : (t p : ℕ) → LockWriteFacts s n t p → (v : List ℕ) → Stay n w v → Permitted n v b (granting g (lockWrite t p)) l
-  write-permitted t p f v e = let k = quietly n w v b b g l e refl j in record {
+  write-permitted t p f v e = let k = quietly n w v b b g l e refl j in let m = may t p writing (f .txn) (f .active) (f .page) (f .right) in record {
     rights = k .rights;
     clients = k .clients;
-    reads = λ u q d. by-bool (holds g u q)
-        (λ o. j .reads u q o)
-        (λ o. let x = and-split (eqb u t) (eqb q p) (new (g .reads u q) (g .writes u q) (eqb u t && eqb q p) o d) in
-        rw (eqb-true u t (x .0), eqb-true q p (x .1)) (let y = may in omega arith));
-    writes = λ u q d. elim (or-cases (g .writes u q) (eqb u t && eqb q p) d) [
-      | inl o ↦ j .writes u q o
-      | inr o ↦ (let x = and-split (eqb u t) (eqb q p) o in rw (eqb-true u t (x .0), eqb-true q p (x .1)) may)
+    reads = λ u q d. elim (or-cases (g .reads u q) (g .writes u q || (eqb u t && eqb q p)) d) [
+      | inl o ↦ j .reads u q (or-l (g .reads u q) (g .writes u q) o)
+      | inr c ↦ elim (or-cases (g .writes u q) (eqb u t && eqb q p) c) [
+        | inl o ↦ j .reads u q (or-r (g .reads u q) (g .writes u q) o)
+        | inr o ↦ added t p reading (omega arith) u q o
+      ]
     ];
+    writes = λ u q d. elim (or-cases (g .writes u q) (eqb u t && eqb q p) d) [ inl o ↦ j .writes u q o | inr o ↦ added t p writing m u q o ];
   }
-    where
-      may : writing ≤ rightOf l t p
-      may = leb-true writing (rightOf l t p) (sym (right-by n s b i z g a l j t p writing (active-runs t (f .txn) (f .active)) (f .page)) ∙ f .right)
-
-      new : (r w x : Bool) → (r || w) ≡ false → (r || (w || x)) ≡ true → x ≡ true
-      new true w x o d = clash refl o
-      new false true x o d = clash refl o
-      new false false true o d = refl
-      new false false false o d = clash d refl
 
 -- a pass step
 step-stays : (n : ℕ) → 1 ≤ n → (s : Areas) (b : Book) → OpenInv n s b → Open s n → (at (s .work) phaseAt ≡ 0 → ⊥) → (o : Out) → StepWay s n o → Stay n (s .work) (o .after .work)

@@ -1,6 +1,6 @@
 -- Document 02, L9: reads hand out, and a transaction's calls change, only what its client's rights allow, at every point of every list. n is
 -- the number of pages. Assumes nothing.
-use Prim.Native.Nat.{ℕ, _+_, _*_, _-_, _/_, _%_, _^_, _≤_, _<_}
+use Prim.Native.Nat.{ℕ, _-_, _/_, _%_, _≤_, _<_}
 use native.Mathlib.Omega.{arith}
 use native.Mathlib.Decide.{ℕ-discrete}
 use mathlib.Core.Path.{_≡_, refl, sym, ap, _∙_, subst}
@@ -17,7 +17,6 @@ use Rattle.pages.specs.Soundness.{areaSound}
 use Rattle.page_laws.specs.SoundFacts.{sound-facts}
 use Rattle.page_laws.specs.Tables.{row-at}
 use Rattle.records.specs.Records.{txnCount}
-use Rattle.areas.specs.declared.Answer.the-variants.{Done}
 use Rattle.areas.specs.declared.Check.the-variants.{Accept}
 use Rattle.areas.specs.Answers.{accepted, verdict, all-passed, need-holds}
 use Rattle.areas.specs.Areas.{Areas, Out, done, withWork, appended}
@@ -26,7 +25,7 @@ use Rattle.areas.specs.Tables.{at, isActive}
 use Rattle.areas.specs.Entry.{pages, called-passed}
 use Rattle.calls.specs.Calls.{Call, reopens, perform}
 use Rattle.calls.specs.Calls.Call.{begin, commit, abort, grant, lockRead, lockWrite, read, create, setWord, flush, force, store, empty, pass, step, reopen, restep, mark, back, look}
-use Rattle.calls.specs.Marks.{markSet, sinceMark, wentBack, backTo}
+use Rattle.calls.specs.Marks.{markSet, sinceMark, backTo}
 use Rattle.calls.specs.Objects.{callRead, objectWords, bufferAfter, created, wordSet, flushed}
 use Rattle.calls.specs.Rights.{isClient, isRight, clientOf, hasActive, grantTests, rightGiven, callGrant}
 use Rattle.calls.specs.Transactions.{begun, committed, changesOf, aborted}

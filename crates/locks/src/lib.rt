@@ -55,7 +55,11 @@ fn way_to(w: &[u32], n: usize, t: u32, p: usize, writing: bool) -> Way
 fn right_for(writing: bool) -> u32
     ensures { λ r. ⌜ r ≡ rightFor writing ⌝ }
 {
-    if writing { layout::WRITING } else { layout::READING }
+    if writing {
+        layout::WRITING
+    } else {
+        layout::READING
+    }
 }
 
 // Refusals 3, 4, 19 and 6 of a lock.

@@ -6,8 +6,8 @@ use mathlib.Core.Bool.{true, not}
 use mathlib.Core.List.{List}
 use lib.ListN.{length}
 use Rattle.pages.specs.Soundness.{areaSound}
-use Rattle.areas.specs.Layout.{activeAt, unflushedAt, tableWords}
-use Rattle.areas.specs.Tables.{gain, lose}
+use Rattle.areas.specs.Layout.{unflushedAt, tableWords}
+use Rattle.areas.specs.Tables.{lose}
 use Rattle.calls.specs.Transactions.{begunTables, endedTables}
 use Rattle.calls.specs.Locks.{readLocked, writeLocked}
 use Rattle.calls.specs.Objects.{learned}

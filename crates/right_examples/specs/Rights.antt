@@ -1,7 +1,7 @@
 -- Document 02, L9: clients and rights, in lists of calls with their answers. Assumes nothing.
 use Prim.Native.Nat.{ℕ}
 use mathlib.Core.Path.{_≡_, refl}
-use mathlib.Core.Bool.{true, _&&_}
+use mathlib.Core.Bool.{true}
 use mathlib.Core.List.{List, [], _∷_, _++_}
 use lib.ListN.{replicate, set}
 use lib.Dec.{eqb}
@@ -10,7 +10,7 @@ use Rattle.areas.specs.Areas.{withWork}
 use Rattle.areas.specs.Layout.{activeAt, readersAt, clientAt, rightAt}
 use Rattle.areas.specs.Tables.{at}
 use Rattle.calls.specs.Formatting.{formatted}
-use Rattle.calls.specs.Calls.{begin, commit, abort, grant, lockRead, lockWrite, read, create, setWord, flush, force, store, empty, pass, step, reopen, restep, mark, back}
+use Rattle.calls.specs.Calls.{begin, commit, abort, grant, lockRead, lockWrite, read, create, flush, force, store, empty, pass, step, reopen, restep, mark, back}
 use Rattle.computing.specs.Calls.{calls}
 use Rattle.computing.specs.Stores.{sameWords, sameAreas, refusedBy}
 use Rattle.computing.specs.Rows.{Row, takes, refuses, holds, power, right}

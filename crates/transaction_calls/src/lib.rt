@@ -31,7 +31,13 @@ pub fn held_begin(
     match k {
         Check::Refuse(x) => Answer::Refused(x),
         Check::Accept => Answer::Done(transactions::begin_apply(
-            received, log, counts, work, n, t, client,
+            received,
+            log,
+            counts,
+            work,
+            n,
+            t,
+            client,
         )),
     }
 }

@@ -1,6 +1,5 @@
 use Rattle.acceptance.specs.Entered.{formed-sized, open-formed}
 use Rattle.areas.specs.Answers.{verdict}
-use Rattle.areas.specs.Areas.{areas}
 use Rattle.areas.specs.Entry.{called-closed, called-refused, called-passed}
 use Rattle.calls.specs.Locks.{callLockRead}
 use Rattle.locks.specs.Checks.{open-clients, lock-read-as, lock-passed}
