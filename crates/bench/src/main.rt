@@ -14,7 +14,7 @@ use libc::STDIN_FILENO;
 use libc::STDOUT_FILENO;
 
 // The store: so many pages and log records.
-const PAGES: usize = 4;
+const PAGES: usize = bench_rights::PAGES as usize;
 
 const RECORDS: usize = 64;
 

@@ -8,7 +8,7 @@ use areas::layout;
 // The one client, and the pages of the store.
 pub const CLIENT: u32 = 0;
 
-const PAGES: u32 = 4;
+pub const PAGES: u32 = 4;
 
 // Gives the client all rights on every page.
 pub fn give_all(

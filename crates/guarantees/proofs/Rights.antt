@@ -4,10 +4,10 @@ use Prim.Native.Nat.{ℕ, _-_, _/_, _%_, _≤_, _<_}
 use native.Mathlib.Omega.{arith}
 use native.Mathlib.Decide.{ℕ-discrete}
 use mathlib.Core.Path.{_≡_, refl, sym, ap, _∙_, subst}
-use mathlib.Core.Bool.{true, false, not, _&&_}
+use mathlib.Core.Bool.{true, false, _&&_}
 use mathlib.Core.List.{List}
 use lib.ListN.{length}
-use lib.Dec.{eqb, ltb}
+use lib.Dec.{eqb}
 use borrow.Author.Tests.{eq-eqb, eqb-true, lt-ltb, le-leb}
 use Rattle.words.specs.Tests.{by-bool, clash, and-split, any, any-intro, any-elim}
 use Rattle.words.specs.Bits.{bit, bits-same}
@@ -17,8 +17,7 @@ use Rattle.pages.specs.Soundness.{areaSound}
 use Rattle.page_laws.specs.SoundFacts.{sound-facts}
 use Rattle.page_laws.specs.Tables.{row-at}
 use Rattle.records.specs.Records.{txnCount}
-use Rattle.areas.specs.declared.Check.the-variants.{Accept}
-use Rattle.areas.specs.Answers.{accepted, verdict, all-passed, need-holds}
+use Rattle.areas.specs.Answers.{accepted}
 use Rattle.areas.specs.Areas.{Areas, Out, done, withWork, appended}
 use Rattle.areas.specs.Layout.{clientCount, reading, writing}
 use Rattle.areas.specs.Tables.{at, isActive}
@@ -27,13 +26,13 @@ use Rattle.calls.specs.Calls.{Call, reopens, perform}
 use Rattle.calls.specs.Calls.Call.{begin, commit, abort, grant, lockRead, lockWrite, read, create, setWord, flush, force, store, empty, pass, step, reopen, restep, mark, back, look}
 use Rattle.calls.specs.Marks.{markSet, sinceMark, backTo}
 use Rattle.calls.specs.Objects.{callRead, objectWords, bufferAfter, created, wordSet, flushed}
-use Rattle.calls.specs.Rights.{isClient, isRight, clientOf, hasActive, grantTests, rightGiven, callGrant}
+use Rattle.calls.specs.Rights.{clientOf, hasActive, grantTests, rightGiven, callGrant}
 use Rattle.calls.specs.Transactions.{begun, committed, changesOf, aborted}
 use Rattle.acceptance.specs.Calls.{refused-keeps}
 use Rattle.acceptance.specs.Entered.{opened}
 use Rattle.acceptance.specs.Working.{Ranged, ranged}
 use Rattle.acceptance.specs.Transactions.{begin-outcome, commit-outcome, abort-outcome}
-use Rattle.acceptance.specs.Rights.{grant-outcome, grant-facts}
+use Rattle.acceptance.specs.Rights.{grant-outcome, grant-facts, grant-passes}
 use Rattle.acceptance.specs.Locks.{lock-read-outcome, lock-write-outcome}
 use Rattle.acceptance.specs.Objects.{read-outcome, read-facts, create-outcome, set-outcome, flush-outcome}
 use Rattle.acceptance.specs.Marks.{mark-outcome, back-outcome}
@@ -149,11 +148,6 @@ open-after n s b (open-store i) f = i
 open-after n s b (cut-store i) f = absurd (f (λ e. awaiting-opened (sym (i .stage) ∙ e)))
 open-after n s b (reopening-store k l i) f = absurd (f (λ e. storing-opened (sym (i .stage) ∙ e)))
 
--- a change of a right whose tests hold
-granting-passes : (s : Areas) (n c p r : ℕ) → isClient c && ltb p n && isRight r ≡ true → hasActive (s .work) n c ≡ false → Accept ≡ verdict (grantTests s n c p r)
-unfolding grantTests
-granting-passes s n c p r h f = all-passed ∙ need-holds _ _ _ _ (ap not f) ∙ need-holds _ _ _ _ h
-
 -- at a point
 module _ (n : ℕ) (q : Point) (g : Granted) (l : Permits) (z : Sure n q) (j : Lawful n q (g, l)) where
   abbrev s : Areas
@@ -259,7 +253,7 @@ module _ (n : ℕ) (q : Point) (g : Granted) (l : Permits) (z : Sure n q) (j : L
   changes-so c p r small below top st none =
       let i = open-after n s b (z .inv) (λ f. f st) in
       sym (ap (λ (o : Out). accepted (o .answer)) (called-passed true true s (λ m. grantTests s m c p r) (λ m. done 0 (withWork s (rightGiven (s .work) m c p r))) (formed n s b (z .fine) true refl) (eq-eqb _ _ (i .word))
-      (granting-passes s (pages s) c p r (rw (lt-ltb c clientCount small, lt-ltb p (pages s) below) (le-leb r writing top)) (rw (i .size) (idle i c none)))))
+      (grant-passes s (pages s) c p r (rw (lt-ltb c clientCount small, lt-ltb p (pages s) below) (le-leb r writing top)) (rw (i .size) (idle i c none)))))
 
   isolated : Isolated q l
   isolated = record { reads = read-right; shows = hands-out; writes = writes-so; steady = steady-so; changes = changes-so }

@@ -11,7 +11,7 @@ use Rattle.records.specs.Records.{txnCount}
 use Rattle.areas.specs.declared.Refusal.the-variants.{OutOfRange, WrongState}
 use Rattle.areas.specs.declared.Check.{Check}
 use Rattle.areas.specs.declared.Check.the-variants.{Accept, Refuse}
-use Rattle.areas.specs.Answers.{verdict, all-passed, need-holds, need-fails}
+use Rattle.areas.specs.Answers.{verdict, need-holds, need-fails}
 use Rattle.areas.specs.Areas.{Areas, areas}
 use Rattle.areas.specs.Layout.{HasUndoing, clientCount, rightAt}
 use Rattle.areas.specs.Tables.{at, isActive}
@@ -51,14 +51,9 @@ module _ (s : Areas) (n c p r : ℕ) where
   unfolding grantTests
   grant-outside h = need-fails _ _ _ _ h
 
-  module _ (h : isClient c && ltb p n && isRight r ≡ true) where
-    pub grant-active : hasActive (s .work) n c ≡ true → Refuse WrongState ≡ verdict (grantTests s n c p r)
-    unfolding grantTests
-    grant-active a = need-fails _ _ _ _ (ap not a) ∙ need-holds _ _ _ _ h
-
-    pub grant-passes : hasActive (s .work) n c ≡ false → Accept ≡ verdict (grantTests s n c p r)
-    unfolding grantTests
-    grant-passes a = all-passed ∙ need-holds _ _ _ _ (ap not a) ∙ need-holds _ _ _ _ h
+  pub grant-active : isClient c && ltb p n && isRight r ≡ true → hasActive (s .work) n c ≡ true → Refuse WrongState ≡ verdict (grantTests s n c p r)
+  unfolding grantTests
+  grant-active h a = need-fails _ _ _ _ (ap not a) ∙ need-holds _ _ _ _ h
 
 -- what the code that makes the change needs of a call whose tests passed
 pub grant-ready : (s : Areas) (n c p r : ℕ) → Open s n → verdict (grantTests s n c p r) ≡ Accept → HasUndoing (s .work) n 0 × (c < clientCount) × (p < n)

@@ -1,6 +1,7 @@
 use mathlib.Core.Path.{sym, _∙_}
 use borrow.Author.Tests.{not-true, not-false}
-use Rattle.rights.specs.Checks.{grant-outside, grant-active, grant-passes}
+use Rattle.acceptance.specs.Rights.{grant-passes}
+use Rattle.rights.specs.Checks.{grant-outside, grant-active}
 use borrow.Author.Needs.{needs}
 use Rattle.rights.proofs.grant_check.Statement.{statement}
 use Rattle.rights.proofs.grant_check.Tie as tie
