@@ -1,5 +1,5 @@
 /* A depot's day through the C functions: a dispenser with two valves, one of them replaced, what
- * leads to the old one, how a pass can be spread, a pass that frees it, a meter layout that is tried
+ * leads to the old one, a contractor's tablet, how a pass can be spread, a pass that frees it, a meter layout that is tried
  * and taken back, a page that another has, a power cut in the middle of a job, and the start after it.
  * docs/CALLING.md explains the calls; examples/depot.rs is the same day in Rust. */
 #include <inttypes.h>
@@ -11,6 +11,8 @@
 
 enum { PAGES = 4, RECORDS = 64, PAGE_WORDS = KOPHDAEN_PAGE_WORDS, RECORD_WORDS = KOPHDAEN_RECORD_WORDS };
 enum { ROOT = 1, DISPENSER = 17, OLD_VALVE = 18, OTHER_VALVE = 19, NEW_VALVE = 20, METER = 21, TRIED_METER = 22 };
+enum { SHOP = 0, CONTRACTOR = 1 }; /* clients: docs/RIGHTS.md */
+enum { READING = 1, WRITING = 2 };
 enum { METER_WORD = 2 };          /* the dispenser's reference to its meter */
 enum { SERIAL = 4 };              /* the data word with a valve's serial number */
 enum { PHASE = 2, SWEEPING = 2 }; /* the pass phase in the working tables: docs/LAYOUT.md */
@@ -50,6 +52,15 @@ static uint32_t done(uint64_t code)
     return KOPHDAEN_VALUE(code);
 }
 
+/* Rights are not on the disk: after each start the shop's tablets get all of them, and the contractor's
+ * may read the page of the root. */
+static void give_rights(void)
+{
+    for (uint32_t page = 0; page < PAGES; page++)
+        done(kophdaen_areas_grant(&depot, SHOP, page, WRITING));
+    done(kophdaen_areas_grant(&depot, CONTRACTOR, 0, READING));
+}
+
 /* A new store. */
 static void format(void)
 {
@@ -57,6 +68,7 @@ static void format(void)
     for (uint32_t page = 0; page < PAGES; page++)
         write_page(page);
     write_log();
+    give_rights();
 }
 
 /* The start after a cut: areas of zeros, what the disk has, then the reopening. */
@@ -79,6 +91,7 @@ static void start(void)
         else
             write_log();
     } while (page < PAGES);
+    give_rights();
 }
 
 /* Makes every record stable: from here on no cut undoes a committed transaction. */
@@ -113,7 +126,7 @@ static void flush(uint32_t t, uint32_t page)
 /* The dispenser below the root, with two valves. */
 static void install(uint32_t t)
 {
-    done(kophdaen_areas_begin(&depot, t));
+    done(kophdaen_areas_begin(&depot, t, SHOP));
     done(kophdaen_areas_lock_write(&depot, t, 0));
     done(kophdaen_areas_lock_write(&depot, t, 1));
     done(kophdaen_areas_create(&depot, t, DISPENSER));
@@ -132,7 +145,7 @@ static void install(uint32_t t)
 static void reach_dispenser(uint32_t t)
 {
     uint32_t words[KOPHDAEN_OBJECT_WORDS];
-    done(kophdaen_areas_begin(&depot, t));
+    done(kophdaen_areas_begin(&depot, t, SHOP));
     done(kophdaen_areas_lock_read(&depot, t, 0));
     done(kophdaen_areas_read(&depot, LENT(words), t, ROOT));
     done(kophdaen_areas_lock_write(&depot, t, 1));
@@ -194,6 +207,17 @@ static void why(void)
     printf("\n");
 }
 
+/* A contractor's tablet finds the dispenser's number at the root, and may not look at its page. */
+static void contract(uint32_t t)
+{
+    uint32_t words[KOPHDAEN_OBJECT_WORDS];
+    done(kophdaen_areas_begin(&depot, t, CONTRACTOR));
+    done(kophdaen_areas_lock_read(&depot, t, 0));
+    printf("contractor: dispenser %" PRIu32, done(kophdaen_areas_read(&depot, LENT(words), t, ROOT)));
+    printf(", its page: answer %" PRIu32 "\n", KOPHDAEN_ANSWER(kophdaen_areas_lock_read(&depot, t, 1)));
+    done(kophdaen_areas_abort(&depot, t));
+}
+
 static void fit_meter(uint32_t t, uint32_t meter)
 {
     done(kophdaen_areas_create(&depot, t, meter));
@@ -227,7 +251,7 @@ static void lay_out(uint32_t t)
 static void who_has(uint32_t t, uint32_t page)
 {
     uint64_t code;
-    done(kophdaen_areas_begin(&depot, t));
+    done(kophdaen_areas_begin(&depot, t, SHOP));
     code = kophdaen_areas_lock_read(&depot, t, page);
     printf("page %" PRIu32 ": answer %" PRIu32 ", transaction %" PRIu32 " has it\n", page, KOPHDAEN_ANSWER(code),
            KOPHDAEN_VALUE(code));
@@ -240,6 +264,7 @@ int main(void)
     install(0);
     show(0);
     why();
+    contract(0);
     empty_log();
     replace_valve(1);
     why();

@@ -1,5 +1,5 @@
 //! A depot's day through the Rust wrapper: a dispenser with two valves, one of them replaced, what
-//! leads to the old one, how a pass can be spread, a pass that frees it, a meter layout that is tried
+//! leads to the old one, a contractor's tablet, how a pass can be spread, a pass that frees it, a meter layout that is tried
 //! and taken back, a page that another has, a power cut in the middle of a job, and the start after it.
 //! docs/CALLING.md explains the calls; examples/depot.c is the same day in C.
 
@@ -14,6 +14,11 @@ const OTHER_VALVE: u32 = 19;
 const NEW_VALVE: u32 = 20;
 const METER: u32 = 21;
 const TRIED_METER: u32 = 22;
+/// Clients, and their rights: docs/RIGHTS.md.
+const SHOP: u32 = 0;
+const CONTRACTOR: u32 = 1;
+const READING: u32 = 1;
+const WRITING: u32 = 2;
 /// The dispenser's reference to its meter.
 const METER_WORD: usize = 2;
 /// The data word with a valve's serial number.
@@ -49,7 +54,18 @@ impl Server {
             pages: store.stored.clone(),
             records: Vec::new(),
         };
-        Server { store, disk }
+        let mut server = Server { store, disk };
+        server.give_rights();
+        server
+    }
+
+    /// Rights are not on the disk: after each start the shop's tablets get all of them, and the
+    /// contractor's may read the page of the root.
+    fn give_rights(&mut self) {
+        for page in 0..PAGES {
+            done(self.store.grant(SHOP, page as u32, WRITING));
+        }
+        done(self.store.grant(CONTRACTOR, 0, READING));
     }
 
     /// The start after a cut: areas of zeros, what the disk has, then the reopening.
@@ -64,6 +80,7 @@ impl Server {
             let page = done(server.store.reopen_step()) as usize;
             if page == PAGES {
                 server.write_log();
+                server.give_rights();
                 return server;
             }
             server.write_page(page);
@@ -108,7 +125,7 @@ impl Server {
 
     /// The dispenser below the root, with two valves.
     fn install(&mut self, t: u32) {
-        done(self.store.begin(t));
+        done(self.store.begin(t, SHOP));
         done(self.store.lock_write(t, 0));
         done(self.store.lock_write(t, 1));
         done(self.store.create(t, DISPENSER));
@@ -126,7 +143,7 @@ impl Server {
     /// Transaction t begins, and finds its way from the root to the dispenser: what it read, it
     /// knows.
     fn reach_dispenser(&mut self, t: u32) {
-        done(self.store.begin(t));
+        done(self.store.begin(t, SHOP));
         done(self.store.lock_read(t, 0));
         done(self.store.read(&mut [0; OBJECT_WORDS], t, ROOT));
         done(self.store.lock_write(t, 1));
@@ -190,6 +207,16 @@ impl Server {
         println!();
     }
 
+    /// A contractor's tablet finds the dispenser's number at the root, and may not look at its page.
+    fn contract(&mut self, t: u32) {
+        done(self.store.begin(t, CONTRACTOR));
+        done(self.store.lock_read(t, 0));
+        let dispenser = done(self.store.read(&mut [0; OBJECT_WORDS], t, ROOT));
+        let answer = self.store.lock_read(t, 1).number;
+        println!("contractor: dispenser {dispenser}, its page: answer {answer}");
+        done(self.store.abort(t));
+    }
+
     fn fit_meter(&mut self, t: u32, meter: u32) {
         done(self.store.create(t, meter));
         done(self.store.set_word(t, DISPENSER, METER_WORD as u32, meter));
@@ -219,7 +246,7 @@ impl Server {
 
     /// Another crew asks for a page that is taken, and is told whom to call.
     fn who_has(&mut self, t: u32, page: u32) {
-        done(self.store.begin(t));
+        done(self.store.begin(t, SHOP));
         let answer = self.store.lock_read(t, page);
         let holder = answer.holder().expect("refused with 6");
         println!(
@@ -235,6 +262,7 @@ fn main() {
     server.install(0);
     server.show(0);
     server.why();
+    server.contract(0);
     server.empty_log();
     server.replace_valve(1);
     server.why();

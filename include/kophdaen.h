@@ -2,7 +2,7 @@
  *
  * Every call on the store is lent the six areas of docs/LAYOUT.md, each as a pointer and its length
  * in words: stored pages, page copies, received pages (129 * P words each), the log (6 * L), the two
- * log counts (2) and the working tables (134 + 67 * P + L), with P from 1 to 256 and L from 1 to
+ * log counts (2) and the working tables (150 + 75 * P + L), with P from 1 to 256 and L from 1 to
  * 4096. kophdaen_whole and the two calls that arrange a page by columns are lent pages alone.
  * An area that a call only reads is const. The library keeps no pointer and allocates nothing. A
  * call takes the areas, then the buffer or the image that it is lent, then its numbers;
@@ -13,7 +13,7 @@
  * does not overlap, its image or buffer neither with an area.
  *
  * A call answers  answer number * 2^32 + value : number 0 where accepted, else the number of the
- * refusal (1 to 18), with every buffer as it was. A refusal's value is 0, but that of 6, which is a
+ * refusal (1 to 19), with every buffer as it was. A refusal's value is 0, but that of 6, which is a
  * transaction that has the page: see the locks. Any words may be lent, but to the held calls.
  * docs/CALLING.md has the refusals, what to write to the disk and when, and names whole programs.
  */
@@ -35,7 +35,8 @@ extern "C" {
 #define KOPHDAEN_SHARE_WORDS 2u
 #define KOPHDAEN_RECORD_WORDS 6u
 #define KOPHDAEN_COUNTS_WORDS 2u
-#define KOPHDAEN_WORK_WORDS(pages, records) (134u + 67u * (pages) + (records))
+#define KOPHDAEN_CLIENTS 8u
+#define KOPHDAEN_WORK_WORDS(pages, records) (150u + 75u * (pages) + (records))
 
 /* Makes the root and no other object. Checks lengths only. Value 0. */
 uint64_t kophdaen_format(
@@ -43,11 +44,14 @@ uint64_t kophdaen_format(
     uint32_t *received, size_t received_words, uint32_t *log, size_t log_words,
     uint32_t *counts, size_t counts_words, uint32_t *work, size_t work_words);
 
-/* Transactions t are 0 to 15. Value: the received count. */
+/* Transactions t are 0 to 15; t begins as the tablet client, 0 to 7, whose rights decide what it may
+ * lock. Refusals in order: 1, 2, 3 (t or client out of range), 4 (t active), 11. Value of begin, commit
+ * and abort: the received count. */
 uint64_t kophdaen_begin(
     const uint32_t *stored, size_t stored_words, const uint32_t *copies, size_t copies_words,
     uint32_t *received, size_t received_words, uint32_t *log, size_t log_words,
-    uint32_t *counts, size_t counts_words, uint32_t *work, size_t work_words, uint32_t t);
+    uint32_t *counts, size_t counts_words, uint32_t *work, size_t work_words,
+    uint32_t t, uint32_t client);
 
 uint64_t kophdaen_commit(
     const uint32_t *stored, size_t stored_words, const uint32_t *copies, size_t copies_words,
@@ -77,7 +81,17 @@ uint64_t kophdaen_back(
     uint32_t *counts, size_t counts_words, uint32_t *work, size_t work_words,
     uint32_t t, uint32_t mark);
 
-/* Locks never wait. Value 0; where the answer is 6, KOPHDAEN_VALUE(code) tells whom to call: the
+/* Gives client (0 to 7) the right on the page: 0 nothing, 1 reading, 2 reading and writing. A formatted
+ * and a reopened store give nobody a right; they are not on the disk. Refusals in order: 1, 2, 3 (client,
+ * page or right out of range), 4 (a transaction of that client is active). Value 0. */
+uint64_t kophdaen_grant(
+    const uint32_t *stored, size_t stored_words, const uint32_t *copies, size_t copies_words,
+    const uint32_t *received, size_t received_words, const uint32_t *log, size_t log_words,
+    const uint32_t *counts, size_t counts_words, uint32_t *work, size_t work_words,
+    uint32_t client, uint32_t page, uint32_t right);
+
+/* To lock a page for reading t's client needs the right 1, for writing 2; else 19, after 4 and before 6.
+ * Locks never wait. Value 0; where the answer is 6, KOPHDAEN_VALUE(code) tells whom to call: the
  * lowest-numbered other transaction with any lock on the page, for reading or for writing (0 is
  * transaction 0). */
 uint64_t kophdaen_lock_read(
@@ -217,6 +231,7 @@ __typeof__(kophdaen_commit) kophdaen_held_commit;
 __typeof__(kophdaen_abort) kophdaen_held_abort;
 __typeof__(kophdaen_mark) kophdaen_held_mark;
 __typeof__(kophdaen_back) kophdaen_held_back;
+__typeof__(kophdaen_grant) kophdaen_held_grant;
 __typeof__(kophdaen_lock_read) kophdaen_held_lock_read;
 __typeof__(kophdaen_lock_write) kophdaen_held_lock_write;
 __typeof__(kophdaen_read) kophdaen_held_read;
@@ -257,9 +272,9 @@ static inline uint64_t kophdaen_areas_format(const kophdaen_areas *areas)
     return kophdaen_format(KOPHDAEN_LENT(areas));
 }
 
-static inline uint64_t kophdaen_areas_begin(const kophdaen_areas *areas, uint32_t t)
+static inline uint64_t kophdaen_areas_begin(const kophdaen_areas *areas, uint32_t t, uint32_t client)
 {
-    return kophdaen_begin(KOPHDAEN_LENT(areas), t);
+    return kophdaen_begin(KOPHDAEN_LENT(areas), t, client);
 }
 
 static inline uint64_t kophdaen_areas_commit(const kophdaen_areas *areas, uint32_t t)
@@ -280,6 +295,12 @@ static inline uint64_t kophdaen_areas_mark(const kophdaen_areas *areas, uint32_t
 static inline uint64_t kophdaen_areas_back(const kophdaen_areas *areas, uint32_t t, uint32_t mark)
 {
     return kophdaen_back(KOPHDAEN_LENT(areas), t, mark);
+}
+
+static inline uint64_t kophdaen_areas_grant(
+    const kophdaen_areas *areas, uint32_t client, uint32_t page, uint32_t right)
+{
+    return kophdaen_grant(KOPHDAEN_LENT(areas), client, page, right);
 }
 
 static inline uint64_t kophdaen_areas_lock_read(
@@ -366,9 +387,10 @@ static inline uint64_t kophdaen_areas_pass_share(
 }
 
 /* .. and the held ones. */
-static inline uint64_t kophdaen_areas_held_begin(const kophdaen_areas *areas, uint32_t t)
+static inline uint64_t kophdaen_areas_held_begin(
+    const kophdaen_areas *areas, uint32_t t, uint32_t client)
 {
-    return kophdaen_held_begin(KOPHDAEN_LENT(areas), t);
+    return kophdaen_held_begin(KOPHDAEN_LENT(areas), t, client);
 }
 
 static inline uint64_t kophdaen_areas_held_commit(const kophdaen_areas *areas, uint32_t t)
@@ -389,6 +411,12 @@ static inline uint64_t kophdaen_areas_held_mark(const kophdaen_areas *areas, uin
 static inline uint64_t kophdaen_areas_held_back(const kophdaen_areas *areas, uint32_t t, uint32_t mark)
 {
     return kophdaen_held_back(KOPHDAEN_LENT(areas), t, mark);
+}
+
+static inline uint64_t kophdaen_areas_held_grant(
+    const kophdaen_areas *areas, uint32_t client, uint32_t page, uint32_t right)
+{
+    return kophdaen_held_grant(KOPHDAEN_LENT(areas), client, page, right);
 }
 
 static inline uint64_t kophdaen_areas_held_lock_read(

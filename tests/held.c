@@ -32,17 +32,26 @@ static void expect(const char *what, int so)
         expect(#name " answers " #number, KOPHDAEN_ANSWER(*code++) == number); \
     } while (0)
 
-/* An object is created under the root, with a word of its own, and is there after a reopening. Between, locks are refused, and
- * tell who has the page, and a pass begins, whose share is told. At the end one more is created after a mark, and uncreated by
+/* Client 0 may write page 0 and read page 1: what a lock needs beyond that is refused, and so is all after a reopening until a
+ * right is given. An object is created under the root, with a word of its own, and is there after a reopening. Between, locks are
+ * refused, and tell who has the page, and a pass begins, whose share is told. At the end one more is created after a mark, and uncreated by
  * going back. */
 static void work(const kophdaen_areas *a, store *s, int held)
 {
     uint64_t *code = s->codes;
     uint32_t image[KOPHDAEN_PAGE_WORDS];
-    CALL(3, begin, a, 16);
-    CALL(0, begin, a, 0);
+    CALL(3, begin, a, 16, 0);
+    CALL(3, begin, a, 0, 8);
+    CALL(3, grant, a, 0, PAGES, 2);
+    CALL(3, grant, a, 0, 0, 3);
+    CALL(0, grant, a, 0, 0, 2);
+    CALL(0, grant, a, 0, 1, 1);
+    CALL(0, begin, a, 0, 0);
+    CALL(4, grant, a, 0, 0, 1);
+    CALL(0, grant, a, 7, 0, 1);
     CALL(0, lock_write, a, 0, 0);
     CALL(0, lock_read, a, 0, 1);
+    CALL(19, lock_write, a, 0, 1);
     CALL(0, create, a, 0, 2);
     CALL(0, set_word, a, 0, 2, 4, 50118);
     CALL(0, set_word, a, 0, 1, 3, 2);
@@ -55,9 +64,9 @@ static void work(const kophdaen_areas *a, store *s, int held)
     expect("the chain is 1 2", KOPHDAEN_VALUE(code[-1]) == 2 && s->chain[0] == 1 && s->chain[1] == 2 && s->chain[2] == 0);
     CALL(3, chain, a, LENT(s->chain), 33);
     CALL(0, commit, a, 0);
-    CALL(0, begin, a, 1);
+    CALL(0, begin, a, 1, 0);
     CALL(0, lock_write, a, 1, 0);
-    CALL(0, begin, a, 0);
+    CALL(0, begin, a, 0, 0);
     CALL(6, lock_read, a, 0, 0);
     expect("transaction 1 has the page", KOPHDAEN_VALUE(code[-1]) == 1);
     CALL(6, lock_write, a, 0, 0);
@@ -75,10 +84,15 @@ static void work(const kophdaen_areas *a, store *s, int held)
     CALL(0, store_page, a, 0);
     CALL(0, empty_log, a);
     expect("reopen is accepted", KOPHDAEN_ANSWER(kophdaen_areas_reopen(a)) == 0);
-    CALL(2, begin, a, 0);
+    CALL(2, begin, a, 0, 0);
+    CALL(2, grant, a, 0, 0, 2);
     CALL(2, pass_share, a, LENT(s->share), 0);
     for (int page = 0; page <= PAGES; page++) CALL(0, reopen_step, a);
-    CALL(0, begin, a, 0);
+    CALL(0, begin, a, 0, 0);
+    CALL(19, lock_read, a, 0, 0);
+    CALL(0, abort, a, 0);
+    CALL(0, grant, a, 0, 0, 2);
+    CALL(0, begin, a, 0, 0);
     CALL(0, lock_write, a, 0, 0);
     CALL(3, mark, a, 0, 4);
     CALL(16, back, a, 0, 3);
@@ -87,7 +101,7 @@ static void work(const kophdaen_areas *a, store *s, int held)
     CALL(0, read, a, LENT(s->buffer), 0, 3);
     CALL(0, back, a, 0, 3);
     CALL(7, read, a, LENT(s->buffer), 0, 3);
-    expect("three records: begin, create, uncreate", s->counts[0] == 3 && s->records[2 * KOPHDAEN_RECORD_WORDS] == 6);
+    expect("five records: begin, aborted, begin, create, uncreate", s->counts[0] == 5 && s->records[4 * KOPHDAEN_RECORD_WORDS] == 6);
 }
 
 static store stores[2];

@@ -14,9 +14,10 @@ use Rattle.calls.specs.Objects.{callRead, ifAccepted, bufferAfter}
 use Rattle.calls.specs.Chains.{callChain, chainAfter}
 use Rattle.calls.specs.PassShares.{callPassShare, passShareAfter}
 use Rattle.calls.specs.Calls.{Call, perform}
-use Rattle.calls.specs.Calls.Call.{begin, commit, abort, lockRead, lockWrite, read, create, setWord, flush, force, store, empty, pass, step, reopen, restep, mark, back, look}
+use Rattle.calls.specs.Calls.Call.{begin, commit, abort, grant, lockRead, lockWrite, read, create, setWord, flush, force, store, empty, pass, step, reopen, restep, mark, back, look}
 use Rattle.acceptance.specs.Ran.{Keeps, done-keeps, checked-keeps}
 use Rattle.acceptance.specs.Transactions.{begin-outcome, commit-outcome, abort-outcome}
+use Rattle.acceptance.specs.Rights.{grant-outcome}
 use Rattle.acceptance.specs.Locks.{lock-read-outcome, lock-write-outcome}
 use Rattle.acceptance.specs.Objects.{read-outcome, create-outcome, set-outcome, flush-outcome}
 use Rattle.acceptance.specs.Stability.{force-outcome, store-outcome, empty-outcome}
@@ -28,9 +29,10 @@ use Rattle.acceptance.specs.Looks.{look-outcome}
 -- accepted (perform s c .answer) ≡ false → perform s c .after ≡ s
 pub refused-keeps : (s : Areas) (c : Call) → Keeps s (perform s c)
 unfolding perform
-refused-keeps s (begin t) = begin-outcome s t .keeps
+refused-keeps s (begin t c) = begin-outcome s t c .keeps
 refused-keeps s (commit t) = commit-outcome s t .keeps
 refused-keeps s (abort t) = abort-outcome s t .keeps
+refused-keeps s (grant c p r) = grant-outcome s c p r .keeps
 refused-keeps s (lockRead t p) = lock-read-outcome s t p .keeps
 refused-keeps s (lockWrite t p) = lock-write-outcome s t p .keeps
 refused-keeps s (read t o buffer) = read-outcome s t o buffer .keeps

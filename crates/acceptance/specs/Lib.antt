@@ -4,6 +4,7 @@ pub mod Working
 pub mod Entered
 pub mod Ran
 pub mod Room
+pub mod Rights
 pub mod Transactions
 pub mod Locks
 pub mod Objects

@@ -5,33 +5,36 @@ use mathlib.Core.Bool.{true, false, not}
 use mathlib.Core.List.{List}
 use lib.ListN.{length}
 use borrow.Author.Tests.{ltb-true, leb-true, not-true}
-use Rattle.words.specs.Tests.{all-at}
+use Rattle.words.specs.Tests.{all-at, and-split}
 use Rattle.records.specs.Records.{txnCount}
 use Rattle.calls.specs.Room.{changeRoom}
 use Rattle.areas.specs.declared.Check.the-variants.{Accept}
 use Rattle.areas.specs.Answers.{verdict, passed}
 use Rattle.areas.specs.Areas.{Areas, done, receivedCount}
-use Rattle.areas.specs.Layout.{unflushedAt}
-use Rattle.areas.specs.Tables.{has, isActive}
+use Rattle.areas.specs.Layout.{unflushedAt, clientCount}
+use Rattle.areas.specs.Tables.{has, isTxn, isActive}
 use Rattle.areas.specs.Entry.{records}
+use Rattle.calls.specs.Rights.{isClient}
 use Rattle.calls.specs.Transactions.{allFlushed, changesOf, beginTests, begun, callBegin, commitTests, committed, callCommit, abortTests, aborted, callAbort}
 use Rattle.acceptance.specs.Room.{Room, room-facts}
 use Rattle.acceptance.specs.Ran.{Outcome, outcome-done}
 
-pub record BeginFacts (s : Areas) (n t : ℕ) : Type 0 where
+pub record BeginFacts (s : Areas) (n t c : ℕ) : Type 0 where
   pub txn : t < txnCount
+  pub client : c < clientCount
   pub inactive : isActive (s .work) t ≡ false
   pub room : Room s n changeRoom
 
-pub begin-facts : (s : Areas) (n t : ℕ) → verdict (beginTests s n t) ≡ Accept → BeginFacts s n t
+pub begin-facts : (s : Areas) (n t c : ℕ) → verdict (beginTests s n t c) ≡ Accept → BeginFacts s n t c
 unfolding beginTests
-begin-facts s n t h =
-    record { txn = ltb-true _ _ (passed _ 0 h); inactive = not-true _ (passed _ 1 h); room = room-facts s n changeRoom (passed _ 2 h) }
+begin-facts s n t c h =
+    let a = and-split (isTxn t) (isClient c) (passed _ 0 h) in
+    record { txn = ltb-true _ _ (a .0); client = ltb-true _ _ (a .1); inactive = not-true _ (passed _ 1 h); room = room-facts s n changeRoom (passed _ 2 h) }
 
-pub begin-outcome : (s : Areas) (t : ℕ) →
-    Outcome true true s (λ n. beginTests s n t) (callBegin s t) (λ n. done (receivedCount (begun s n t)) (begun s n t))
+pub begin-outcome : (s : Areas) (t c : ℕ) →
+    Outcome true true s (λ n. beginTests s n t c) (callBegin s t c) (λ n. done (receivedCount (begun s n t c)) (begun s n t c))
 unfolding callBegin
-begin-outcome s t = outcome-done _ _ _ _ _ _
+begin-outcome s t c = outcome-done _ _ _ _ _ _
 
 pub record CommitFacts (s : Areas) (n t : ℕ) : Type 0 where
   pub txn : t < txnCount

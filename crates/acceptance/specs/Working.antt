@@ -2,20 +2,20 @@
 -- Assumes nothing.
 use Prim.Native.Nat.{ℕ, suc, _+_, _-_, _^_, _<_, _≤_}
 use mathlib.Core.Path.{_≡_, subst}
-use mathlib.Core.Bool.{true}
+use mathlib.Core.Bool.{Bool, true, false}
 use mathlib.Core.List.{List, _∷_}
 use lib.ListN.{getD}
-use lib.Dec.{leb}
+use lib.Dec.{leb, ltb}
 use native.Mathlib.Omega.{arith}
 use borrow.Author.Tests.{leb-true}
-use Rattle.words.specs.Tests.{all-at, and-split}
+use Rattle.words.specs.Tests.{if, all-at, and-split}
 use Rattle.words.specs.Spans.{upTo}
 use Rattle.pages.specs.Geometry.{objectCount}
 use Rattle.pages.specs.Soundness.{areaSound}
 use Rattle.records.specs.Records.{txnCount, maskTop}
 use Rattle.records.specs.Soundness.{recordsSound}
 use Rattle.areas.specs.Areas.{Areas, receivedCount, stableCount}
-use Rattle.areas.specs.Layout.{Row, reopeningAt, reopeningPageAt, phaseAt, passPageAt, stepsAt, activeAt, readersAt, writersAt, unflushedAt, knownAt, prunedAt, createdAt, colourAt, markCount, markedAt, orderAt, undoingAt, finished, flaggedTop, stepsTop, colourTop, changesTop, orderTop, undoingTop}
+use Rattle.areas.specs.Layout.{Row, reopeningAt, reopeningPageAt, phaseAt, passPageAt, stepsAt, activeAt, readersAt, writersAt, unflushedAt, knownAt, prunedAt, createdAt, colourAt, markCount, markedAt, orderAt, clientCount, clientAt, rightAt, undoingAt, finished, flaggedTop, stepsTop, colourTop, changesTop, orderTop, clientTop, writing, undoingTop}
 use Rattle.areas.specs.Tables.{at}
 use Rattle.areas.specs.Ranges.{rowsInRange, workInRange, countsInRange, inRange}
 use Rattle.areas.specs.Entry.{records}
@@ -45,6 +45,8 @@ pub record Working (w : List ℕ) (n l : ℕ) : Type 0 where
   pub colours : (o : ℕ) → 1 ≤ o → o ≤ objectCount n → at w (colourAt n o) ≤ colourTop
   pub marked : (t m : ℕ) → t < txnCount → m < markCount → at w (markedAt n t m) ≤ changesTop l
   pub order : (t m : ℕ) → t < txnCount → m < markCount → at w (orderAt n t m) ≤ orderTop l
+  pub clients : (t : ℕ) → t < txnCount → at w (clientAt n t) ≤ clientTop l
+  pub rights : (c p : ℕ) → c < clientCount → p < n → at w (rightAt n c p) ≤ writing
   pub undoing : (i : ℕ) → i < l → at w (undoingAt n i) ≤ undoingTop l
 
 -- a row whose words are in range, and the rows after it
@@ -76,6 +78,8 @@ in-rows w n l low h =
     let r14 = row-facts w _ _ (r13 .1) in
     let r15 = row-facts w _ _ (r14 .1) in
     let r16 = row-facts w _ _ (r15 .1) in
+    let r17 = row-facts w _ _ (r16 .1) in
+    let r18 = row-facts w _ _ (r17 .1) in
     record {
       reopening-word = r1 .0 reopeningAt (omega arith) (omega arith);
       reopening-page = r2 .0 reopeningPageAt (omega arith) (omega arith);
@@ -92,8 +96,18 @@ in-rows w n l low h =
       colours = λ o a b. r13 .0 (colourAt n o) (omega arith) (omega arith);
       marked = λ t m a b. r14 .0 (markedAt n t m) (omega arith) (omega arith);
       order = λ t m a b. r15 .0 (orderAt n t m) (omega arith) (omega arith);
-      undoing = λ i a. r16 .0 (undoingAt n i) (omega arith) (omega arith);
+      clients = λ t a. r16 .0 (clientAt n t) (omega arith) (omega arith);
+      rights = λ c p a b. r17 .0 (rightAt n c p) (omega arith) (omega arith);
+      undoing = λ i a. r18 .0 (undoingAt n i) (omega arith) (omega arith);
     }
+
+-- a client is one of the eight
+pub client-in : (w : List ℕ) (n l t : ℕ) → Working w n l → t < txnCount → at w (clientAt n t) < clientCount
+client-in w n l t h small = let e = h .clients t small in let d = top-small (ltb 1 l) in omega arith
+  where
+    top-small : (b : Bool) → if b (clientCount - 1) 0 < clientCount
+    top-small true = omega arith
+    top-small false = omega arith
 
 -- the counts, for a log of l records
 pub counts-facts : (k : List ℕ) (l : ℕ) → countsInRange k l ≡ true → (getD k 1 0 ≤ getD k 0 0) × (getD k 0 0 ≤ l)

@@ -3,7 +3,7 @@ ghost use mathlib.Core.Path.{_≡_};
 ghost use Prim.Native.Nat.{_*_, _^_, _<_, _≤_};
 ghost use Rattle.pages.specs.Geometry.{maxPages, objectCount};
 ghost use Rattle.records.specs.Records.{txnCount, maxRecords};
-ghost use Rattle.areas.specs.Layout.{readersAt, writersAt, unflushedAt, knownAt, prunedAt, createdAt, colourAt, markCount, markedAt, orderAt, undoingAt, workWords};
+ghost use Rattle.areas.specs.Layout.{readersAt, writersAt, unflushedAt, knownAt, prunedAt, createdAt, colourAt, markCount, markedAt, orderAt, clientCount, clientAt, rightAt, undoingAt, workWords};
 
 // The received count, then the stable count.
 pub const COUNT_WORDS: usize = 2;
@@ -21,6 +21,20 @@ pub const WORDS_PER_PAGE: usize = 67;
 pub const MARKS: u32 = 4;
 
 pub const MARK_WORDS: usize = 64;
+
+// The clients, of each transaction one, and on each page a right of each.
+pub const CLIENTS: u32 = 8;
+
+pub const CLIENT_TOP: u32 = CLIENTS - 1;
+
+pub const CLIENT_WORDS: usize = 16;
+
+pub const RIGHTS_PER_PAGE: usize = 8;
+
+// The rights.
+pub const READING: u32 = 1;
+
+pub const WRITING: u32 = 2;
 
 // One word each.
 pub const REOPENING_AT: usize = 0;
@@ -125,12 +139,28 @@ pub fn order_at(n: usize, t: usize, m: usize) -> usize
     SINGLE_WORDS + WORDS_PER_PAGE * n + MARK_WORDS + (MARKS as usize * t + m)
 }
 
+// As whom t began.
+pub fn client_at(n: usize, t: usize) -> usize
+    requires { ⌜ (n ≤ maxPages) × (t < txnCount) ⌝ }
+    ensures { λ r. ⌜ r ≡ clientAt n t ⌝ }
+{
+    SINGLE_WORDS + WORDS_PER_PAGE * n + 2 * MARK_WORDS + t
+}
+
+// The right of client c on page p.
+pub fn right_at(n: usize, c: usize, p: usize) -> usize
+    requires { ⌜ (n ≤ maxPages) × (c < clientCount) × (p < n) ⌝ }
+    ensures { λ r. ⌜ r ≡ rightAt n c p ⌝ }
+{
+    SINGLE_WORDS + WORDS_PER_PAGE * n + 2 * MARK_WORDS + CLIENT_WORDS + (RIGHTS_PER_PAGE * p + c)
+}
+
 // The word of log record i.
 pub fn undoing_at(n: usize, i: usize) -> usize
     requires { ⌜ (n ≤ maxPages) × (i ≤ maxRecords) ⌝ }
     ensures { λ r. ⌜ r ≡ undoingAt n i ⌝ }
 {
-    SINGLE_WORDS + WORDS_PER_PAGE * n + 2 * MARK_WORDS + i
+    SINGLE_WORDS + (WORDS_PER_PAGE + RIGHTS_PER_PAGE) * n + 2 * MARK_WORDS + CLIENT_WORDS + i
 }
 
 // All working words of a store of n pages and l records, also of more than a store has: as many as fit into an address space.
@@ -138,5 +168,5 @@ pub fn work_words(n: usize, l: usize) -> usize
     requires { ⌜ (n < 2 ^ 57) × (l < 2 ^ 62) ⌝ }
     ensures { λ r. ⌜ r ≡ workWords n l ⌝ }
 {
-    SINGLE_WORDS + WORDS_PER_PAGE * n + 2 * MARK_WORDS + l
+    SINGLE_WORDS + (WORDS_PER_PAGE + RIGHTS_PER_PAGE) * n + 2 * MARK_WORDS + CLIENT_WORDS + l
 }

@@ -14,7 +14,7 @@ use libc::STDIN_FILENO;
 use libc::STDOUT_FILENO;
 
 // The store: so many pages and log records.
-const PAGES: usize = 4;
+const PAGES: usize = bench_rights::PAGES as usize;
 
 const RECORDS: usize = 64;
 
@@ -28,6 +28,8 @@ const COUNTS: usize = layout::COUNT_WORDS;
 const WORK_AREA: usize = layout::SINGLE_WORDS
     + layout::WORDS_PER_PAGE * PAGES
     + 2 * layout::MARK_WORDS
+    + layout::CLIENT_WORDS
+    + layout::RIGHTS_PER_PAGE * PAGES
     + RECORDS;
 
 // The bytes that are read at a time.
@@ -194,6 +196,7 @@ fn main() {
         &mut counts,
         &mut work,
     );
+    bench_rights::give_all(&stored, &copies, &received, &log, &counts, &mut work);
     take_all(
         &mut stored,
         &mut copies,

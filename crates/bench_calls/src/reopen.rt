@@ -4,6 +4,7 @@ ghost use Rattle.areas.specs.Areas.{areas, out};
 ghost use Rattle.bench_run.specs.Bench.{reopeningCall};
 use areas::Answer;
 use bench_names::ReopeningCall;
+use bench_rights::give_again;
 
 // Does a call of a reopening.
 pub fn reopening_call(
@@ -26,13 +27,9 @@ pub fn reopening_call(
             counts,
             work,
         ),
-        ReopeningCall::Restep => reopening_calls::restep(
-            stored,
-            copies,
-            received,
-            log,
-            counts,
-            work,
-        ),
+        ReopeningCall::Restep => {
+            let a = reopening_calls::restep(stored, copies, received, log, counts, work);
+            give_again(stored, copies, received, log, counts, work, a)
+        }
     }
 }

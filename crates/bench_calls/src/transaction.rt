@@ -20,7 +20,16 @@ pub fn transaction_call(
     ensures { λ r. ⌜ out r (now (stored .exit)) (now (copies .exit)) (now (received .exit)) (now (log .exit)) (now (counts .exit)) (now (work .exit)) ≡ transactionCall (areas (now (stored .entry)) (now (copies .entry)) (now (received .entry)) (now (log .entry)) (now (counts .entry)) (now (work .entry))) c ⌝ }
 {
     match c {
-        TransactionCall::Begin(t) => begin(stored, copies, received, log, counts, work, t),
+        TransactionCall::Begin(t) => begin(
+            stored,
+            copies,
+            received,
+            log,
+            counts,
+            work,
+            t,
+            bench_rights::CLIENT,
+        ),
         TransactionCall::Commit(t) => commit(stored, copies, received, log, counts, work, t),
         TransactionCall::Abort(t) => transaction_calls::abort(
             stored,

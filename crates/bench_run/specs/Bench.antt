@@ -1,13 +1,19 @@
 -- Document 01, 'The bench program': what each line does to the store, and what is written. Assumes nothing.
-use Prim.Native.Nat.{ℕ, _+_}
+use Prim.Native.Nat.{ℕ, zero, suc, _+_}
+use mathlib.Core.Bool.{Bool, false}
 use mathlib.Core.List.{List, [], _∷_, _++_}
 use lib.ListN.{take, drop, replicate}
+use lib.Dec.{eqb}
+use Rattle.words.specs.Tests.{if}
 use Rattle.pages.specs.Geometry.{pageAt, pageWords}
 use Rattle.areas.specs.declared.Refusal.the-variants.{Malformed}
+use Rattle.areas.specs.declared.Answer.{Answer}
+use Rattle.areas.specs.declared.Answer.the-variants.{Done, Refused}
 use Rattle.areas.specs.Answers.{answerOf, valueOf}
 use Rattle.areas.specs.Areas.{Areas, Out, refused}
+use Rattle.areas.specs.Layout.{writing}
 use Rattle.calls.specs.Formatting.{formatted}
-use Rattle.calls.specs.Calls.{perform, begin, commit, abort, lockRead, lockWrite, read, create, setWord, flush, force, store, empty, pass, step, reopen, restep}
+use Rattle.calls.specs.Calls.{perform, begin, commit, abort, grant, lockRead, lockWrite, read, create, setWord, flush, force, store, empty, pass, step, reopen, restep}
 use Rattle.bench_names.specs.declared.Command.{Command}
 use Rattle.bench_names.specs.declared.Command.the-variants.{Transaction, Lock, Object, Stability, Collection, Reopening, NoCall}
 use Rattle.bench_names.specs.declared.TransactionCall.{TransactionCall}
@@ -36,9 +42,27 @@ benchPages = 4
 abbrev pub benchRecords : ℕ
 benchRecords = 64
 
+-- document 02, L9: 'The bench gives client 0 all rights', 'and its begins name client 0'
+abbrev pub benchClient : ℕ
+benchClient = 0
+
+-- 'all rights', on the first k pages
+unfoldable pub allGiven : Areas → ℕ → Areas
+allGiven s zero = s
+allGiven s (suc p) = perform (allGiven s p) (grant benchClient p writing) .after
+
 -- 'It formats P = 4, L = 64'
 abbrev pub benchStore : Areas
-benchStore = formatted benchPages benchRecords
+benchStore = allGiven (formatted benchPages benchRecords) benchPages
+
+-- L9: 'a finished reopening': the step whose value is P ('the page stored, lastly P, for a reopening step')
+abbrev pub finishes : Answer → Bool
+finishes (Done v) = eqb v benchPages
+finishes (Refused x) = false
+
+-- L9: all rights 'again after each finished reopening'
+unfoldable pub rightsAgain : Out → Out
+rightsAgain o = let given : Out = record { answer = o .answer; after = allGiven (o .after) benchPages } in if (finishes (o .answer)) given o
 
 -- '`flush` sends the received page itself.' A page that does not exist sends a page of zeros, so that its number is what is refused.
 unfoldable pub pageSent : Areas → ℕ → List ℕ
@@ -46,7 +70,7 @@ pageSent s p = take pageWords (drop (pageAt p) (s .received) ++ replicate pageWo
 
 -- '`begin`, `commit`, `abort` with t'
 unfoldable pub transactionCall : Areas → TransactionCall → Out
-transactionCall s (Begin t) = perform s (begin t)
+transactionCall s (Begin t) = perform s (begin t benchClient)
 transactionCall s (Commit t) = perform s (commit t)
 transactionCall s (Abort t) = perform s (abort t)
 
@@ -76,7 +100,7 @@ passCall s Step = perform s step
 -- '`reopen`, `restep` (a reopening step) alone'
 unfoldable pub reopeningCall : Areas → ReopeningCall → Out
 reopeningCall s Reopen = perform s reopen
-reopeningCall s Restep = perform s restep
+reopeningCall s Restep = rightsAgain (perform s restep)
 
 -- a line's call, by its family; 'A line that is no call answers 1.'
 unfoldable pub benchCall : Areas → Command → Out

@@ -11,7 +11,7 @@ use Rattle.pages.specs.Objects.{taken, wordOf}
 use Rattle.reach.specs.Reaching.{refersTo}
 use Rattle.records.specs.declared.Record.{Record}
 use Rattle.records.specs.Records.{beginOf, createOf, setOf, commitOf, abortedOf, sweepOf}
-use Rattle.calls.specs.Calls.{Call, begin, commit, abort, lockRead, lockWrite, read, create, setWord, flush, force, store, empty, pass, step, reopen, restep, mark, back, look}
+use Rattle.calls.specs.Calls.{Call, begin, commit, abort, grant, lockRead, lockWrite, read, create, setWord, flush, force, store, empty, pass, step, reopen, restep, mark, back, look}
 use Rattle.book.specs.Lines.{Line, line, left, struckNewest, undoingNewest, undoneLines, newestCreates}
 use Rattle.book.specs.Books.{Stage, opened, awaiting, storing, Book, fullPages, stopped}
 
@@ -106,10 +106,11 @@ goesBack (suc k) b t = goesBack k (undoes b t) t
 
 -- an accepted call in a store of n pages; before, after: the received pages around it, of which only a pass step's cleared slots are read
 unfoldable pub fed : ℕ → Book → Call → List ℕ → List ℕ → Book
-fed n b (begin t) before after = begins b t
+fed n b (begin t c) before after = begins b t
 fed n b (commit t) before after = ends (adds b t (commitOf t)) t
 fed n b (abort t) before after =
     let i = b .running t in ends (adds (withLines b (undoneLines i (left i (b .lines)) (b .lines))) t (abortedOf t)) t
+fed n b (grant c p r) before after = b
 fed n b (lockRead t p) before after = b
 fed n b (lockWrite t p) before after = b
 fed n b (read t o buffer) before after = learns b t (refersTo (fullPages b) o)

@@ -6,7 +6,7 @@ use mathlib.Core.List.{List}
 use lib.Dec.{eqb}
 use Rattle.pages.specs.Objects.{wordOf}
 use Rattle.records.specs.Records.{createOf, setOf}
-use Rattle.calls.specs.Calls.{Call, begin, commit, abort, lockRead, lockWrite, read, create, setWord, flush, force, store, empty, pass, step, reopen, restep, mark, back, look}
+use Rattle.calls.specs.Calls.{Call, begin, commit, abort, grant, lockRead, lockWrite, read, create, setWord, flush, force, store, empty, pass, step, reopen, restep, mark, back, look}
 use Rattle.book.specs.Lines.{left}
 use Rattle.book.specs.Books.{Book, storing, fullPages}
 use Rattle.book.specs.Feeding.{fed, adds, stepped}
@@ -18,9 +18,10 @@ use Rattle.book_laws.proofs.GoingBack.{went-inv, abort-all-inv}
 
 pub fed-inv : (n : ℕ) (b : Book) (c : Call) (before after : List ℕ) → BookInv b → Expects b c → BookInv (fed n b c before after)
 unfolding fed
-fed-inv n b (begin t) before after i h = begin-inv b i t (h .0) (h .1)
+fed-inv n b (begin t c) before after i h = begin-inv b i t (h .0) (h .1)
 fed-inv n b (commit t) before after i h = commit-inv b i t h
 fed-inv n b (abort t) before after i h = abort-all-inv t b i h
+fed-inv n b (grant c p r) before after i h = i
 fed-inv n b (lockRead t p) before after i h = i
 fed-inv n b (lockWrite t p) before after i h = i
 fed-inv n b (read t o buffer) before after i h = learn-inv b i t (refersTo (fullPages b) o)

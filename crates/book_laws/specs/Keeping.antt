@@ -10,7 +10,7 @@ use Rattle.pages.specs.Geometry.{pageOf, pageWords}
 use Rattle.pages.specs.Soundness.{areaSound}
 use Rattle.records.specs.Records.{isBegin, isEnd, isSweep, txnCount}
 use Rattle.records.specs.Soundness.{recordSound}
-use Rattle.calls.specs.Calls.{Call, begin, commit, abort, lockRead, lockWrite, read, create, setWord, flush, force, store, empty, pass, step, reopen, restep, mark, back, look}
+use Rattle.calls.specs.Calls.{Call, begin, commit, abort, grant, lockRead, lockWrite, read, create, setWord, flush, force, store, empty, pass, step, reopen, restep, mark, back, look}
 use Rattle.book.specs.Lines.{Line, isLeft, hasEnd}
 use Rattle.book.specs.Books.{Book, runs}
 
@@ -87,9 +87,10 @@ pub record Writers (b : Book) (wr : ℕ → ℕ → Bool) : Type 0 where
 
 -- what an accepted call finds in the book
 abbrev pub Expects : Book → Call → Type 0
-Expects b (begin t) = (t < txnCount) × (b .running t ≡ 0)
+Expects b (begin t c) = (t < txnCount) × (b .running t ≡ 0)
 Expects b (commit t) = Runs b t
 Expects b (abort t) = Runs b t
+Expects b (grant c p r) = Unit
 Expects b (lockRead t p) = Unit
 Expects b (lockWrite t p) = Unit
 Expects b (read t o buffer) = Unit

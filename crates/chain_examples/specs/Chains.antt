@@ -14,7 +14,7 @@ use Rattle.calls.specs.Formatting.{formatted}
 use Rattle.calls.specs.Calls.{Call, begin, lockWrite, create, setWord, flush, reopen}
 use Rattle.calls.specs.Chains.{callChain, chainAfter}
 use Rattle.computing.specs.Calls.{calls}
-use Rattle.computing.specs.Stores.{sameWords, sameAreas, after}
+use Rattle.computing.specs.Stores.{sameWords, sameAreas, after, allowed}
 
 -- word f of object o names x
 pub data Reference : Type 0 where
@@ -55,7 +55,7 @@ allRight (r ∷ rs) = let on = allRight rs in right r && on
 
 -- a new object 17, named by the root: both in received pages only
 abbrev pub linked : List Call
-linked = begin 0 ∷ lockWrite 0 0 ∷ lockWrite 0 1 ∷ create 0 17 ∷ setWord 0 1 0 17 ∷ []
+linked = begin 0 0 ∷ lockWrite 0 0 ∷ lockWrite 0 1 ∷ create 0 17 ∷ setWord 0 1 0 17 ∷ []
 
 -- the flush of the root's page
 abbrev pub rootFlushed : Call
@@ -79,9 +79,9 @@ table =
     ∷ refusal 1 (formatted 1 8) [] 1 (replicate 8 7)
     ∷ refusal 2 (formatted 1 8) (reopen ∷ []) 0 used
     ∷ refusal 1 (formatted 1 8) (reopen ∷ []) 0 (replicate 8 7)
-    ∷ refusal 15 (formatted 2 16) linked 17 used
-    ∷ refusal 15 (formatted 2 16) (linked ++ (rootFlushed ∷ [])) 17 used
-    ∷ shows (formatted 2 16) (linked ++ (rootFlushed ∷ objectFlushed ∷ [])) 17 (1 ∷ 17 ∷ [])
+    ∷ refusal 15 (allowed 2 16) linked 17 used
+    ∷ refusal 15 (allowed 2 16) (linked ++ (rootFlushed ∷ [])) 17 used
+    ∷ shows (allowed 2 16) (linked ++ (rootFlushed ∷ objectFlushed ∷ [])) 17 (1 ∷ 17 ∷ [])
     ∷ []
 
 pub chains-right : allRight table ≡ true

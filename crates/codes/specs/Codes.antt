@@ -3,7 +3,7 @@ use Prim.Native.Nat.{ℕ, _+_, _*_, _≤_}
 use native.Mathlib.Omega.{arith}
 use mathlib.Core.Path.{_≡_, ap, _∙_}
 use Rattle.areas.specs.declared.Refusal.{Refusal}
-use Rattle.areas.specs.declared.Refusal.the-variants.{Malformed, NotOpen, OutOfRange, WrongState, NotLocked, Held, Unknown, Occupied, Differs, Unflushed, LogFull, Unstable, InUse, Unsound, Free, Unmarked, CommitsOutOfRange, SelfReference}
+use Rattle.areas.specs.declared.Refusal.the-variants.{Malformed, NotOpen, OutOfRange, WrongState, NotLocked, Held, Unknown, Occupied, Differs, Unflushed, LogFull, Unstable, InUse, Unsound, Free, Unmarked, CommitsOutOfRange, SelfReference, RightMissing}
 use Rattle.areas.specs.declared.Answer.{Answer}
 use Rattle.areas.specs.declared.Answer.the-variants.{Done, Refused}
 use Rattle.areas.specs.Answers.{numberOf, answerOf, valueOf}
@@ -33,6 +33,7 @@ number-small Free = omega arith
 number-small Unmarked = omega arith
 number-small CommitsOutOfRange = omega arith
 number-small SelfReference = omega arith
+number-small RightMissing = omega arith
 
 pub answer-small : (a : Answer) → answerOf a ≤ 24
 answer-small (Done v) = omega arith

@@ -9,7 +9,7 @@ use lib.ListN.{replicate}
 use lib.Dec.{eqb}
 use Rattle.pages.specs.Objects.{occupied, wordOf}
 use Rattle.areas.specs.Answers.{answerOf, valueOf}
-use Rattle.calls.specs.Calls.{Call, begin, commit, lockWrite, read, create, setWord, flush, force, pass, step, reopen, restep, perform}
+use Rattle.calls.specs.Calls.{Call, begin, grant, lockRead, commit, lockWrite, read, create, setWord, flush, force, pass, step, reopen, restep, perform}
 use Rattle.book.specs.Lines.{Line}
 use Rattle.book.specs.Books.{fullLines}
 use Rattle.book.specs.Pointers.{unbroken}
@@ -57,50 +57,51 @@ linesAre ks q = haveKinds ks (q .book .lines)
 abbrev pub image : ℕ → ℕ → ℕ → List ℕ
 image m w v = m ∷ w ∷ v ∷ replicate 126 0
 
--- transaction 0 makes record 2 on page 0 and record 17 on page 1, which names it; the root names 17
+-- client 0 gets all rights; its transaction 0 makes record 2 on page 0 and record 17 on page 1, which names it; the root names 17
 abbrev pub making : List Scene
 making =
-    gives 1 (begin 0) ∷ gives 0 (lockWrite 0 0) ∷ gives 0 (lockWrite 0 1)
+    gives 0 (grant 0 0 2) ∷ gives 0 (grant 0 1 2) ∷ gives 1 (begin 0 0) ∷ gives 0 (lockWrite 0 0) ∷ gives 0 (lockWrite 0 1)
     ∷ gives 2 (create 0 2) ∷ gives 3 (create 0 17) ∷ gives 4 (setWord 0 17 0 2) ∷ gives 5 (setWord 0 1 0 17)
     ∷ gives 0 (flush 0 0 (image 3 17 0)) ∷ gives 0 (flush 0 1 (image 1 2 0)) ∷ gives 6 (commit 0) ∷ []
 
 -- transaction 1 comes to know 17 by reading the root, and cuts the pointer to it; slot 2 is taken
 abbrev pub cutting : List Scene
 cutting =
-    gives 7 (begin 1) ∷ gives 0 (lockWrite 1 0) ∷ refuses 8 (create 1 2) ∷ asks (λ q. not (knows 1 17 q))
+    gives 7 (begin 1 0) ∷ gives 0 (lockWrite 1 0) ∷ refuses 8 (create 1 2) ∷ asks (λ q. not (knows 1 17 q))
     ∷ gives 17 (read 1 1 (replicate 8 0)) ∷ asks (knows 1 17) ∷ asks (λ q. not (knows 1 2 q))
     ∷ gives 8 (setWord 1 1 0 0) ∷ gives 0 (flush 1 0 (image 3 0 0)) ∷ gives 9 (commit 1) ∷ asks (λ q. not (knows 1 17 q)) ∷ []
 
 -- a pass frees 2; page 1 is locked for writing, so that 17 stays and still names 2
 abbrev pub freeing : List Scene
 freeing =
-    gives 10 (begin 2) ∷ gives 0 (lockWrite 2 1) ∷ asks (names 2 0 0)
+    gives 10 (begin 2 0) ∷ gives 0 (lockWrite 2 1) ∷ asks (names 2 0 0)
     ∷ gives 0 pass ∷ gives 1 step ∷ gives 0 step ∷ gives 1 step ∷ gives 0 step
     ∷ asks (λ q. not (names 2 0 0 q)) ∷ asks (names 17 0 2) ∷ []
 
 -- transaction 3 fills the slot again: the root's pointer leads to the new record, that of 17, which nothing reaches, to none
 abbrev pub filling : List Scene
 filling =
-    gives 12 (begin 3) ∷ gives 0 (lockWrite 3 0) ∷ gives 13 (create 3 2) ∷ gives 14 (setWord 3 1 1 2) ∷ gives 0 (flush 3 0 (image 3 0 2)) ∷ gives 15 (commit 3)
+    gives 12 (begin 3 0) ∷ gives 0 (lockWrite 3 0) ∷ gives 13 (create 3 2) ∷ gives 14 (setWord 3 1 1 2) ∷ gives 0 (flush 3 0 (image 3 0 2)) ∷ gives 15 (commit 3)
     ∷ asks (names 1 1 2) ∷ asks (leads 1 1 2) ∷ asks (names 17 0 2) ∷ asks (λ q. not (leads 17 0 2 q)) ∷ []
 
 -- transaction 4 changes the root, which may not name itself (document 02, L8) but have its number as data, and does not end; transaction 2
 -- ends, and its last record is not stable: seventeen are
 abbrev pub forcing : List Scene
 forcing =
-    gives 16 (begin 4) ∷ gives 0 (lockWrite 4 0) ∷ refuses 18 (setWord 4 1 2 1) ∷ gives 17 (setWord 4 1 4 1) ∷ gives 18 (commit 2)
+    gives 16 (begin 4 0) ∷ gives 0 (lockWrite 4 0) ∷ refuses 18 (setWord 4 1 2 1) ∷ gives 17 (setWord 4 1 4 1) ∷ gives 18 (commit 2)
     ∷ gives 1 force ∷ gives 2 force ∷ gives 3 force ∷ gives 4 force ∷ gives 5 force ∷ gives 6 force ∷ gives 7 force ∷ gives 8 force ∷ gives 9 force
     ∷ gives 10 force ∷ gives 11 force ∷ gives 12 force ∷ gives 13 force ∷ gives 14 force ∷ gives 15 force ∷ gives 16 force ∷ gives 17 force
     ∷ asks (linesAre (4 ∷ 3 ∷ 1 ∷ 4 ∷ 3 ∷ 2 ∷ 1 ∷ 7 ∷ 1 ∷ 4 ∷ 3 ∷ 1 ∷ 4 ∷ 3 ∷ 3 ∷ 2 ∷ 2 ∷ 1 ∷ [])) ∷ []
 
 -- the power fails: the lines of 2 and of 4 are gone, and those of 0, 1 and 3 and the sweep's are left. The reopening stores page 0; the
--- power fails; the reopening runs from its start to its end
+-- power fails; the reopening runs from its start to its end, and gives nobody a right (document 02, L9)
 abbrev pub reopening : List Scene
 reopening =
     cut ∷ asks (linesAre (4 ∷ 3 ∷ 2 ∷ 1 ∷ 7 ∷ 4 ∷ 3 ∷ 1 ∷ 4 ∷ 3 ∷ 3 ∷ 2 ∷ 2 ∷ 1 ∷ []))
     ∷ gives 0 reopen ∷ gives 0 restep ∷ cut
     ∷ gives 0 reopen ∷ gives 0 restep ∷ gives 1 restep ∷ gives 2 restep
-    ∷ asks (names 1 1 2) ∷ asks (names 1 4 0) ∷ asks (names 17 0 2) ∷ asks (leads 1 1 2) ∷ asks (λ q. not (leads 17 0 2 q)) ∷ []
+    ∷ asks (names 1 1 2) ∷ asks (names 1 4 0) ∷ asks (names 17 0 2) ∷ asks (leads 1 1 2) ∷ asks (λ q. not (leads 17 0 2 q))
+    ∷ gives 1 (begin 0 0) ∷ refuses 19 (lockRead 0 0) ∷ []
 
 -- the whole list
 abbrev pub run : List Scene

@@ -33,9 +33,10 @@ use Rattle.calls.specs.PassShares.{passShareTests, passShareLook, callPassShare
 use Rattle.calls.specs.Reopening.{reopenTests, reopened, callReopen, restepTests, pageStored, reopeningOver, callRestep}
 use Rattle.calls.specs.Room.{roomBeyond}
 use Rattle.calls.specs.Stability.{forceTests, callForce, storeTests, callStore, emptyTests, callEmpty}
-use Rattle.calls.specs.Transactions.{beginTests, begun, callBegin, withoutMarks, endedTables, allFlushed, commitTests, committed, callCommit, rolledBack, restored, abortTests, aborted, callAbort}
+use Rattle.calls.specs.Rights.{mayLock, hasActive, grantTests, rightGiven, callGrant}
+use Rattle.calls.specs.Transactions.{beginTests, begunTables, begun, callBegin, withoutMarks, endedTables, allFlushed, commitTests, committed, callCommit, rolledBack, restored, abortTests, aborted, callAbort}
 
 -- what its line names opens with it; its value is of no use
 unfoldable pub calls : ℕ
-unfolding withBit withoutBit mapOf slotsSet over fill copied upTo same all any count sum lowest isRefAt agrees cleared takenSlot freedSlot releasedIn formattedPages refsSound slotZero freeZero pageSound areaSound tabulate rowsOf withRows changesIn changesLeft reserved effect undone undoing lastNaming openIn logSound redone undoneIn recovered recoverable wordSound recordSound recordsSound lastOf found passing extended followed searched chainTo verdict appended wellFormed called lengthsFit rowsInRange workInRange countsInRange inRange greyed perform chainTests chainLook callChain chainAfter formatted formatTests callFormat cut holderOf lockReadTests readLocked callLockRead lockWriteTests writeLocked callLockWrite callLook othersSet setLast markTests markSet callMark backTests takenBack wentBack dropped backTo callBack readTests learned callRead bufferAfter createTests created callCreate setTests pruned wordSet callSet flushTests flushed callFlush passTests unflagged passStarted callPass lowestGrey targetsGreyed scanned marked sweepMap freedMap advanced sweepTests sweptPage swept stepTests callStep passShareTests passShareLook callPassShare passShareAfter reopenTests reopened callReopen restepTests pageStored reopeningOver callRestep roomBeyond forceTests callForce storeTests callStore emptyTests callEmpty beginTests begun callBegin withoutMarks endedTables allFlushed commitTests committed callCommit rolledBack restored abortTests aborted callAbort
+unfolding withBit withoutBit mapOf slotsSet over fill copied upTo same all any count sum lowest isRefAt agrees cleared takenSlot freedSlot releasedIn formattedPages refsSound slotZero freeZero pageSound areaSound tabulate rowsOf withRows changesIn changesLeft reserved effect undone undoing lastNaming openIn logSound redone undoneIn recovered recoverable wordSound recordSound recordsSound lastOf found passing extended followed searched chainTo verdict appended wellFormed called lengthsFit rowsInRange workInRange countsInRange inRange greyed perform chainTests chainLook callChain chainAfter formatted formatTests callFormat cut mayLock hasActive grantTests rightGiven callGrant holderOf lockReadTests readLocked callLockRead lockWriteTests writeLocked callLockWrite callLook othersSet setLast markTests markSet callMark backTests takenBack wentBack dropped backTo callBack readTests learned callRead bufferAfter createTests created callCreate setTests pruned wordSet callSet flushTests flushed callFlush passTests unflagged passStarted callPass lowestGrey targetsGreyed scanned marked sweepMap freedMap advanced sweepTests sweptPage swept stepTests callStep passShareTests passShareLook callPassShare passShareAfter reopenTests reopened callReopen restepTests pageStored reopeningOver callRestep roomBeyond forceTests callForce storeTests callStore emptyTests callEmpty beginTests begunTables begun callBegin withoutMarks endedTables allFlushed commitTests committed callCommit rolledBack restored abortTests aborted callAbort
 calls = 0

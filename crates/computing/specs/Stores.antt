@@ -1,10 +1,13 @@
 -- What the tables of examples share: stores that are the same, calls that are accepted and a call that is refused. Assumes nothing.
-use Prim.Native.Nat.{ℕ}
+use Prim.Native.Nat.{ℕ, _*_}
 use mathlib.Core.Bool.{Bool, true, false, _&&_}
 use mathlib.Core.List.{List, [], _∷_}
 use lib.Dec.{eqb}
 use Rattle.areas.specs.Answers.{answerOf, valueOf, accepted}
-use Rattle.areas.specs.Areas.{Areas}
+use Rattle.words.specs.Spans.{fill}
+use Rattle.areas.specs.Areas.{Areas, withWork}
+use Rattle.areas.specs.Layout.{clientCount, rightAt, writing}
+use Rattle.calls.specs.Formatting.{formatted}
 use Rattle.calls.specs.Calls.{Call, perform}
 
 -- two lists of words are the same; two stores are
@@ -19,6 +22,10 @@ unfoldable pub sameAreas : Areas → Areas → Bool
 sameAreas a b =
     sameWords (a .stored) (b .stored) && sameWords (a .copies) (b .copies) && sameWords (a .received) (b .received)
     && sameWords (a .log) (b .log) && sameWords (a .counts) (b .counts) && sameWords (a .work) (b .work)
+
+-- a formatted store that gives every client all rights (document 02, L9)
+abbrev pub allowed : ℕ → ℕ → Areas
+allowed n l = let s = formatted n l in withWork s (fill (λ j. writing) (s .work) (rightAt n 0 0) (clientCount * n))
 
 -- the call is refused with this number and this value, and every word stays
 unfoldable pub refusedBy : ℕ → ℕ → Areas → Call → Bool

@@ -18,10 +18,9 @@ use Rattle.records.specs.Effects.{effect}
 use Rattle.records.specs.Order.{openIn}
 use Rattle.areas.specs.Answers.{accepted}
 use Rattle.areas.specs.Areas.{Areas, Out, receivedCount, withWork, appended}
-use Rattle.areas.specs.Layout.{activeAt}
-use Rattle.areas.specs.Tables.{gain, undoes}
+use Rattle.areas.specs.Tables.{undoes}
 use Rattle.calls.specs.Calls.{begin}
-use Rattle.calls.specs.Transactions.{callBegin, begun, knowsRoot}
+use Rattle.calls.specs.Transactions.{callBegin, begun, begunTables}
 use Rattle.acceptance.specs.Entered.{Open, opened}
 use Rattle.acceptance.specs.Transactions as Accepted
 use Rattle.book.specs.Lines.{Line, line, isLeft, filtered}
@@ -36,7 +35,7 @@ use Rattle.collector.proofs.Depths.{deep-begin}
 use Rattle.machine_view.specs.View.{view}
 use Rattle.machine_calls.specs.Tables.{locksOf, tablesOf}
 use Rattle.machine_calls.proofs.Frames.{reopening-kept}
-use Rattle.machine_calls.proofs.Begun.{begin-beside}
+use Rattle.machine_calls.proofs.Begun.{begin-beside, begin-behind}
 use Rattle.machine_calls.proofs.Facts.{act-is, begin-facts}
 use Rattle.machine_calls.proofs.Shows.{Shows, begin-shows}
 use Rattle.recovery_proof.proofs.Invariant as Recovery
@@ -53,7 +52,7 @@ use Rattle.book_laws.proofs.Invariant.{begin-inv}
 use Rattle.book_laws.proofs.Openness as Openness
 use Rattle.demand.proofs.State.{machine, received, OpenInv}
 use Rattle.demand.proofs.LeftRecords.{leftRecords}
-use Rattle.demand.proofs.Notes.{Notes, Behind, undoes-same, marks-same, left-other, left-begun, fresh-more}
+use Rattle.demand.proofs.Notes.{Notes, NotesStay, undoes-same, marks-same, left-other, left-begun, fresh-more}
 use Rattle.demand.proofs.Going.{away-all, backs-past}
 use Rattle.demand.proofs.Change.{machine-shows}
 use Rattle.demand.proofs.Bound.{Bounding, bound-sound, bound-full, bound-log}
@@ -63,9 +62,9 @@ unfolding _or_
 either true b = refl
 either false b = refl
 
-module _ (n : ℕ) (some : 1 ≤ n) (s : Areas) (b : Book) (i : OpenInv n s b) (h : Open s n) (t : ℕ) (f : Accepted.BeginFacts s n t) where
+module _ (n : ℕ) (some : 1 ≤ n) (s : Areas) (b : Book) (i : OpenInv n s b) (h : Open s n) (t c : ℕ) (f : Accepted.BeginFacts s n t c) where
   abbrev w : List ℕ
-  w = knowsRoot (gain (s .work) activeAt t) n t
+  w = begunTables (s .work) n t c
 
   abbrev s′ : Areas
   s′ = withWork (appended s (beginOf t)) w
@@ -90,7 +89,7 @@ module _ (n : ℕ) (some : 1 ≤ n) (s : Areas) (b : Book) (i : OpenInv n s b) (
   st = Calls.begun (machine n s b) t (suc (suc (length (b .lines))))
 
   shows : Shows w n st
-  shows = begin-shows (s .work) n (h .sized .tables .1) (machine n s b) (machine-shows n s b) some t (suc (suc (length (b .lines)))) (f .txn)
+  shows = begin-shows (s .work) n (h .sized .tables .1) (machine n s b) (machine-shows n s b) some t c (suc (suc (length (b .lines)))) (f .txn)
 
   abbrev stack : Stacks
   stack = with (i .going .stack) t []
@@ -101,7 +100,7 @@ module _ (n : ℕ) (some : 1 ≤ n) (s : Areas) (b : Book) (i : OpenInv n s b) (
       (λ z. record { cmt = λ x. committed-same x z .object; rec = λ x. full-same x z .object; cop = view (s .copies) })
       (λ z. record { cmtTag = λ x. committed-same x z .tag; recTag = λ x. full-same x z .tag; now = suc (suc (length (b .lines))) })
       (sym (shows .locks)) (sym (shows .tables)) (sym (shows .pass))
-      (deep-begin t _ (machine n s b) (i .going .stack) (begin-facts s n (machine n s b) (machine-shows n s b) t _ f (omega arith)) (i .going .deep))
+      (deep-begin t _ (machine n s b) (i .going .stack) (begin-facts s n (machine n s b) (machine-shows n s b) t c _ f (omega arith)) (i .going .deep))
 
   -- the tables then
   act-after : (u : ℕ) → locksOf w n .act u ≡ (locksOf (s .work) n .act u or eqb u t)
@@ -169,8 +168,8 @@ module _ (n : ℕ) (some : 1 ≤ n) (s : Areas) (b : Book) (i : OpenInv n s b) (
       (λ d. away-all (beginOf t) (i .going .stack u) (λ x. refl))
       (λ l j x d. begin-counts b (i .book) t (f .txn) idle l j) (i .going .backs u (rw e at run))))
 
-  behind : Behind n (s .work) w
-  behind j l = begin-beside (s .work) n t some .above j (omega arith)
+  behind : NotesStay n (s .work) w
+  behind j l k = let a = f .txn in begin-behind (s .work) n t some c (f .txn) j l (λ z. let q = k (omega arith) in omega arith)
 
   long : recordWords * receivedCount s + recordWords ≤ length (s .log)
   long = let e = h .sized .log-len in let q = f .room in omega arith
@@ -195,7 +194,7 @@ module _ (n : ℕ) (some : 1 ≤ n) (s : Areas) (b : Book) (i : OpenInv n s b) (
   begun-inv = record {
     size = i .size;
     stage = i .stage;
-    word = reopening-kept (begin-beside (s .work) n t some) n (omega arith) .0 ∙ i .word;
+    word = reopening-kept (begin-beside (s .work) n t some c (f .txn)) n (omega arith) .0 ∙ i .word;
     collector = inv-of (deep-after 0);
     going = record { stack = stack; deep = deep-after; backs = backs-after; notes = notes-after };
     book = begin-inv b (i .book) t (f .txn) idle;
@@ -209,13 +208,13 @@ module _ (n : ℕ) (some : 1 ≤ n) (s : Areas) (b : Book) (i : OpenInv n s b) (
     log = bound-log n some s b i h _ _ w b′ bounding inv-after (inv-of (deep-after 0));
   }
 
-pub open-begin : (n : ℕ) → 1 ≤ n → (s : Areas) (b : Book) → OpenInv n s b → (t : ℕ) → accepted (callBegin s t .answer) ≡ true
-    → OpenInv n (callBegin s t .after) (fed n b (begin t) (s .received) (callBegin s t .after .received))
+pub open-begin : (n : ℕ) → 1 ≤ n → (s : Areas) (b : Book) → OpenInv n s b → (t c : ℕ) → accepted (callBegin s t c .answer) ≡ true
+    → OpenInv n (callBegin s t c .after) (fed n b (begin t c) (s .received) (callBegin s t c .after .received))
 unfolding fed begun
-open-begin n some s b i t a =
-    let k = Accepted.begin-outcome s t .ran a in
+open-begin n some s b i t c a =
+    let k = Accepted.begin-outcome s t c .ran a in
     let o = opened true s (k .n) (k .ready) in
     let e : k .n ≡ n = sym (o .sized .count) ∙ i .size in
     let h : Open s n = rw e at o in
-    let g : callBegin s t .after ≡ begun s n t = ap (λ (q : Out). q .after) (k .gives) ∙ ap (λ (m : ℕ). begun s m t) e in
-    rw g (begun-inv n some s b i h t (rw e at (Accepted.begin-facts s (k .n) t (k .passed))))
+    let g : callBegin s t c .after ≡ begun s n t c = ap (λ (q : Out). q .after) (k .gives) ∙ ap (λ (m : ℕ). begun s m t c) e in
+    rw g (begun-inv n some s b i h t c (rw e at (Accepted.begin-facts s (k .n) t c (k .passed))))

@@ -50,7 +50,7 @@ use Rattle.book_laws.proofs.Openness.{open-adds}
 use Rattle.book_laws.proofs.Pages.{full-view}
 use Rattle.demand.proofs.State.{machine, received, OpenInv}
 use Rattle.demand.proofs.LeftRecords.{leftRecords}
-use Rattle.demand.proofs.Notes.{leftEntries, Notes, Behind, undoes-same, marks-same, left-other, left-own, fresh-more}
+use Rattle.demand.proofs.Notes.{leftEntries, Notes, Behind, behind-notes, undoes-same, marks-same, left-other, left-own, fresh-more}
 use Rattle.demand.proofs.Going.{items-own, backs-past}
 use Rattle.demand.proofs.OneRecord.{Appends, log-after}
 
@@ -272,14 +272,14 @@ module _ (n : ℕ) (some : 1 ≤ n) (s : Areas) (b : Book) (i : OpenInv n s b) (
 
   notes-after : Notes n s′ b′
   unfolding appended
-  notes-after = let q = undoes-same n (s .work) w behind in record {
+  notes-after = let q = undoes-same n (s .work) w (behind-notes n (s .work) w behind) in record {
     left = λ u run. ap (leftRecords (undoes w n) (recorded (s .log) (receivedCount s) r) u) count-more ∙ by-bool (eqb u t)
         (λ e. rw (eqb-true u t e) (left-own n s b (i .going .notes) w r long q t change-runs (unbegun t) (rw (change-kind r (c .kind), eq-eqb (r .txn) t (c .txn)))
         ∙ sym (entries-more t ∙ rw left-line)))
         (λ e. left-other n s b (i .going .notes) w r long q u run (unbegun u) (rw (ne-eqb (r .txn) u (λ z. eqb-false u t e (sym z ∙ c .txn)), and-false (eqb (r .kind) 2 || eqb (r .kind) 3)))
         ∙ sym (entries-more u ∙ rw (foreign u run e)));
     fresh = fresh-more n s b (i .going .notes) w r long q (receivedCount s′) count-more;
-    marks = marks-same n (s .work) w (b .marked) behind (i .going .notes .marks);
+    marks = marks-same n (s .work) w (b .marked) (behind-notes n (s .work) w behind) (i .going .notes .marks);
   }
     where
       count-more : receivedCount s′ ≡ receivedCount s + 1

@@ -97,13 +97,13 @@ pub end-marks : (n : ℕ) (w : List ℕ) (t : ℕ) → t < txnCount → undoingF
     → ((u m : ℕ) → u < txnCount → m < markCount → (orderOf w n u m ≡ 0 → ⊥) → at w (markedAt n u m) ≡ f u m)
     → (u m : ℕ) → u < txnCount → m < markCount → (orderOf (endedTables w n t) n u m ≡ 0 → ⊥) → at (endedTables w n t) (markedAt n u m) ≡ f u m
 end-marks n w t small len f h u m a b z = elim (ℕ-discrete u t) [
-  | yes e ↦ absurd (z (rw e (ended-unset w n t m b (omega arith))))
-  | no e ↦ ended-others w n t (markedAt n u m) (omega arith) (λ k l. (λ y. e (omega arith), λ y. omega arith))
-      ∙ h u m a b (λ y. z (ended-others w n t (orderAt n u m) (omega arith) (λ k l. (λ x. omega arith, λ x. e (omega arith))) ∙ y))
+  | yes e ↦ absurd (z (rw e (ended-unset w n t small m b (omega arith))))
+  | no e ↦ ended-others w n t (markedAt n u m) (omega arith) (λ y. omega arith) (λ k l. (λ y. e (omega arith), λ y. omega arith))
+      ∙ h u m a b (λ y. z (ended-others w n t (orderAt n u m) (omega arith) (λ y. omega arith) (λ k l. (λ x. omega arith, λ x. e (omega arith))) ∙ y))
 ]
 
 pub end-undoes : (n : ℕ) (w : List ℕ) (t : ℕ) → t < txnCount → (j : ℕ) → undoes (endedTables w n t) n j ≡ undoes w n j
-end-undoes n w t small j = ap (λ (k : ℕ). not (eqb k 0)) (ended-others w n t (undoingAt n j) (omega arith) (λ m l. (λ y. omega arith, λ y. omega arith)))
+end-undoes n w t small j = ap (λ (k : ℕ). not (eqb k 0)) (ended-others w n t (undoingAt n j) (omega arith) (λ y. omega arith) (λ m l. (λ y. omega arith, λ y. omega arith)))
 
 -- record e ends t, which can take nothing back any more; others can what they could
 module _ (n : ℕ) (s : Areas) (b : Book) (i : OpenInv n s b) (z : Sized s n) (t : ℕ) (e : Record) (b′ : Book) (w : List ℕ) where

@@ -11,10 +11,11 @@ use Rattle.areas.specs.Answers.{Test, accepted}
 use Rattle.areas.specs.Areas.{Areas, Out}
 use Rattle.areas.specs.Entry.{reopening}
 use Rattle.calls.specs.Calls.{Call, reopens, perform}
-use Rattle.calls.specs.Calls.Call.{begin, commit, abort, lockRead, lockWrite, read, create, setWord, flush, force, store, empty, pass, step, reopen, restep, mark, back, look}
+use Rattle.calls.specs.Calls.Call.{begin, commit, abort, grant, lockRead, lockWrite, read, create, setWord, flush, force, store, empty, pass, step, reopen, restep, mark, back, look}
 use Rattle.acceptance.specs.Entered.{opened}
 use Rattle.acceptance.specs.Ran.{Outcome}
 use Rattle.acceptance.specs.Transactions.{begin-outcome, commit-outcome, abort-outcome}
+use Rattle.acceptance.specs.Rights.{grant-outcome}
 use Rattle.acceptance.specs.Locks.{lock-read-outcome, lock-write-outcome}
 use Rattle.acceptance.specs.Objects.{read-outcome, create-outcome, set-outcome, flush-outcome}
 use Rattle.acceptance.specs.Stability.{force-outcome, store-outcome, empty-outcome}
@@ -27,9 +28,10 @@ ran-open own s tests o k h a = let r = h .ran a in opened own s (r .n) (r .ready
 
 pub accepted-open : (s : Areas) (c : Call) → reopens c ≡ false → accepted (perform s c .answer) ≡ true → reopening s ≡ 2
 unfolding perform
-accepted-open s (begin t) r a = ran-open true s _ _ _ (begin-outcome s t) a
+accepted-open s (begin t c) r a = ran-open true s _ _ _ (begin-outcome s t c) a
 accepted-open s (commit t) r a = ran-open true s _ _ _ (commit-outcome s t) a
 accepted-open s (abort t) r a = ran-open true s _ _ _ (abort-outcome s t) a
+accepted-open s (grant c p x) r a = ran-open true s _ _ _ (grant-outcome s c p x) a
 accepted-open s (lockRead t p) r a = ran-open true s _ _ _ (lock-read-outcome s t p) a
 accepted-open s (lockWrite t p) r a = ran-open true s _ _ _ (lock-write-outcome s t p) a
 accepted-open s (read t o buffer) r a = ran-open (eqb (length buffer) slotWords) s _ _ _ (read-outcome s t o buffer) a

@@ -26,6 +26,7 @@ pub mod Restored
 pub mod Abort
 pub mod Unlogged
 pub mod Marks
+pub mod Rights
 pub mod Locks
 pub mod Reading
 pub mod Flush

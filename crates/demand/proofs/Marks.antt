@@ -15,7 +15,7 @@ use Rattle.words.specs.Spans.{over, over-inside, over-outside}
 use Rattle.records.specs.Records.{txnCount}
 use Rattle.areas.specs.Answers.{accepted}
 use Rattle.areas.specs.Areas.{Areas, Out, receivedCount, withWork}
-use Rattle.areas.specs.Layout.{reopeningAt, tableWords, markCount, markedAt, orderFrom, orderAt, undoingAt, undoingFrom}
+use Rattle.areas.specs.Layout.{reopeningAt, tableWords, markCount, markedAt, orderFrom, orderAt, clientsFrom, undoingAt, undoingFrom}
 use Rattle.areas.specs.Tables.{at, undoes}
 use Rattle.calls.specs.Calls.{mark, back}
 use Rattle.calls.specs.Transactions.{changesOf}
@@ -87,10 +87,10 @@ module _ (w : List ℕ) (n t m v : ℕ) (small : t < txnCount) (mark : m < markC
   abbrev after : List ℕ
   after = set (setLast w n t m) (markedAt n t m) v
 
-  first : Beside (orderFrom n) (undoingFrom n) w (setLast w n t m)
+  first : Beside (orderFrom n) (clientsFrom n) w (setLast w n t m)
   first = set-last-beside w n t m small mark
 
-  pub mark-beside : Beside (tableWords n) (undoingFrom n) w after
+  pub mark-beside : Beside (tableWords n) (clientsFrom n) w after
   mark-beside = later (wider first (omega arith) (omega arith)) (wider (beside-set (setLast w n t m) (markedAt n t m) v) (omega arith) (omega arith))
 
   pub mark-number : at after (markedAt n t m) ≡ v
@@ -204,7 +204,7 @@ module _ (n : ℕ) (some : 1 ≤ n) (s : Areas) (b : Book) (i : OpenInv n s b) (
 
   mark-kept : OpenInv n (markSet s n t m) (marks b t m)
   unfolding markSet
-  mark-kept = marks-kept n (withWork s w₀) (marks b t m) i₁ w (later (beside-back unset) (mark-beside (s .work) n t m v (f .txn) (f .mark) len)) numbers
+  mark-kept = marks-kept n (withWork s w₀) (marks b t m) i₁ w (later (beside-back unset) (wider (mark-beside (s .work) n t m v (f .txn) (f .mark) len) (omega arith) (omega arith))) numbers
 
 pub open-mark : (n : ℕ) → 1 ≤ n → (s : Areas) (b : Book) → OpenInv n s b → (t m : ℕ) → accepted (callMark s t m .answer) ≡ true
     → OpenInv n (callMark s t m .after) (fed n b (mark t m) (s .received) (callMark s t m .after .received))
@@ -243,7 +243,7 @@ module _ (n : ℕ) (some : 1 ≤ n) (s : Areas) (b : Book) (i : OpenInv n s b) (
   back-kept : OpenInv n (backTo s n t m) (goesBack (length is) b t)
   unfolding backTo
   back-kept = let a = orderOf (s₁ .work) n t m in let l : undoingFrom n ≤ length (s₁ .work) = let e = gone .sized .work-len in omega arith in
-      marks-kept n s₁ (goesBack (length is) b t) (gone .kept) (dropped (s₁ .work) n t a markCount) (dropped-beside (s₁ .work) n t a markCount (f .txn) (omega arith))
+      marks-kept n s₁ (goesBack (length is) b t) (gone .kept) (dropped (s₁ .work) n t a markCount) (wider (dropped-beside (s₁ .work) n t a markCount (f .txn) (omega arith)) (omega arith) (omega arith))
       (λ u k x y z. let d = dropped-marks (s₁ .work) n t a markCount u k (f .txn) x y (omega arith) l z in
       d .0 ∙ gone .kept .going .notes .marks u k x y (λ e. z (d .1 ∙ e)))
 

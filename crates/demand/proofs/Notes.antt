@@ -12,7 +12,7 @@ use Rattle.words.specs.Spans.{fill, fill-inside, fill-outside}
 use Rattle.records.specs.declared.Record.{Record}
 use Rattle.records.specs.Records.{recordWords, txnCount, recorded, isBegin, isChange}
 use Rattle.areas.specs.Areas.{Areas, receivedCount}
-use Rattle.areas.specs.Layout.{tableWords, markCount, markedAt, orderAt, undoingAt}
+use Rattle.areas.specs.Layout.{tableWords, markCount, markedAt, orderAt, clientsFrom, undoingFrom, undoingAt}
 use Rattle.areas.specs.Tables.{at, undoes}
 use Rattle.calls.specs.Marks.{orderOf}
 use Rattle.book.specs.Books.{Book}
@@ -36,13 +36,20 @@ pub record Notes (n : ℕ) (s : Areas) (b : Book) : Type 0 where
 abbrev pub Behind : ℕ → List ℕ → List ℕ → Type 0
 Behind n w v = (j : ℕ) → tableWords n ≤ j → at v j ≡ at w j
 
-pub undoes-same : (n : ℕ) (w v : List ℕ) → Behind n w v → (i : ℕ) → undoes v n i ≡ undoes w n i
-undoes-same n w v h i = ap (λ (k : ℕ). not (eqb k 0)) (h (undoingAt n i) (omega arith))
+-- those of marks and of undoing records do: the words before the clients, and those behind the rights
+abbrev pub NotesStay : ℕ → List ℕ → List ℕ → Type 0
+NotesStay n w v = (j : ℕ) → tableWords n ≤ j → (clientsFrom n ≤ j → undoingFrom n ≤ j) → at v j ≡ at w j
 
-pub marks-same : (n : ℕ) (w v : List ℕ) (f : ℕ → ℕ → ℕ) → Behind n w v
+pub behind-notes : (n : ℕ) (w v : List ℕ) → Behind n w v → NotesStay n w v
+behind-notes n w v h j l k = h j l
+
+pub undoes-same : (n : ℕ) (w v : List ℕ) → NotesStay n w v → (i : ℕ) → undoes v n i ≡ undoes w n i
+undoes-same n w v h i = ap (λ (k : ℕ). not (eqb k 0)) (h (undoingAt n i) (omega arith) (λ z. omega arith))
+
+pub marks-same : (n : ℕ) (w v : List ℕ) (f : ℕ → ℕ → ℕ) → NotesStay n w v
     → ((t m : ℕ) → t < txnCount → m < markCount → (orderOf w n t m ≡ 0 → ⊥) → at w (markedAt n t m) ≡ f t m)
     → (t m : ℕ) → t < txnCount → m < markCount → (orderOf v n t m ≡ 0 → ⊥) → at v (markedAt n t m) ≡ f t m
-marks-same n w v f h k t m a b z = h (markedAt n t m) (omega arith) ∙ k t m a b (λ y. z (h (orderAt n t m) (omega arith) ∙ y))
+marks-same n w v f h k t m a b z = h (markedAt n t m) (omega arith) (λ x. omega arith) ∙ k t m a b (λ y. z (h (orderAt n t m) (omega arith) (λ x. omega arith) ∙ y))
 
 -- words that are 0 stay so where a run of words is cleared
 pub filled-clear : (w : List ℕ) (a k j : ℕ) → a + k ≤ length w → at w j ≡ 0 → at (fill (λ i. 0) w a k) j ≡ 0
@@ -57,11 +64,11 @@ filled-clear w a k j len e = elim (decLe a j) [
 -- no record comes
 pub notes-quiet : (n : ℕ) (s : Areas) (b : Book) (s′ : Areas) (b′ : Book) → s′ .log ≡ s .log → receivedCount s′ ≡ receivedCount s → Behind n (s .work) (s′ .work)
     → b′ .lines ≡ b .lines → b′ .running ≡ b .running → b′ .marked ≡ b .marked → Notes n s b → Notes n s′ b′
-notes-quiet n s b s′ b′ log counts words lines running marked i = record {
+notes-quiet n s b s′ b′ log counts words lines running marked i = let stay = behind-notes n (s .work) (s′ .work) words in record {
   left = λ t r. let r′ : Runs b t = rw running at r in
-      rw (log, counts, lines, running) (left-same (undoes (s .work) n) (undoes (s′ .work) n) (s .log) (s .log) t (receivedCount s) (λ j l. undoes-same n (s .work) (s′ .work) words j) (λ j l. refl) ∙ i .left t r′);
-  fresh = λ j l. undoes-same n (s .work) (s′ .work) words j ∙ i .fresh j (rw counts at l);
-  marks = rw marked (marks-same n (s .work) (s′ .work) (b .marked) words (i .marks));
+      rw (log, counts, lines, running) (left-same (undoes (s .work) n) (undoes (s′ .work) n) (s .log) (s .log) t (receivedCount s) (λ j l. undoes-same n (s .work) (s′ .work) stay j) (λ j l. refl) ∙ i .left t r′);
+  fresh = λ j l. undoes-same n (s .work) (s′ .work) stay j ∙ i .fresh j (rw counts at l);
+  marks = rw marked (marks-same n (s .work) (s′ .work) (b .marked) stay (i .marks));
 }
 
 -- record r comes, with line l, and is not noted as undoing

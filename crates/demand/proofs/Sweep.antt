@@ -67,7 +67,7 @@ use Rattle.demand.proofs.OneRecord.{Appends, log-after}
 use Rattle.demand.proofs.Change.{full-shown}
 use Rattle.demand.proofs.Passing.{advance-passed, sweep-room, advance-word, advance-behind, advance-same}
 use Rattle.demand.proofs.LeftRecords.{leftRecords}
-use Rattle.demand.proofs.Notes.{Behind, undoes-same, marks-same, left-other, fresh-more}
+use Rattle.demand.proofs.Notes.{Behind, behind-notes, undoes-same, marks-same, left-other, fresh-more}
 use Rattle.demand.proofs.Going.{items-own, backs-past}
 
 chosen : (c : Bool) (u v : Seen) → if c u v ≡ record { object = cond c (u .object) (v .object); tag = cond c (u .tag) (v .tag) }
@@ -223,7 +223,7 @@ module _ (n : ℕ) (some : 1 ≤ n) (s : Areas) (b : Book) (i : OpenInv n s b) (
 
   going-after : Going n s′ b′
   unfolding sweptPage appended runs hasCommit filtered entries
-  going-after = let q = undoes-same n (s .work) w behind in record {
+  going-after = let q = undoes-same n (s .work) w (behind-notes n (s .work) w behind) in record {
     stack = i .going .stack;
     deep = machine-after;
     backs = λ u run. backs-past (b .origin) (countsFull b) (countsFull b′) (b .running u) (line r 0) (b .lines) (i .going .stack u)
@@ -234,7 +234,7 @@ module _ (n : ℕ) (some : 1 ≤ n) (s : Areas) (b : Book) (i : OpenInv n s b) (
       left = λ u run. ap (leftRecords (undoes w n) (recorded (s .log) (receivedCount s) r) u) count-more ∙ left-other n s b (i .going .notes) w r long q u run refl refl
           ∙ sym (rw (and-false (eqb 0 (b .running u) && true)) refl);
       fresh = fresh-more n s b (i .going .notes) w r long q (receivedCount s′) count-more;
-      marks = marks-same n (s .work) w (b .marked) behind (i .going .notes .marks);
+      marks = marks-same n (s .work) w (b .marked) (behind-notes n (s .work) w behind) (i .going .notes .marks);
     };
   }
     where

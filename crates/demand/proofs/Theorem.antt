@@ -8,7 +8,7 @@ use Rattle.words.specs.Tests.{by-bool}
 use Rattle.areas.specs.Answers.{accepted}
 use Rattle.areas.specs.Areas.{Areas}
 use Rattle.calls.specs.Calls.{Call, reopens, perform}
-use Rattle.calls.specs.Calls.Call.{begin, commit, abort, lockRead, lockWrite, read, create, setWord, flush, force, store, empty, pass, step, reopen, restep, mark, back, look}
+use Rattle.calls.specs.Calls.Call.{begin, commit, abort, grant, lockRead, lockWrite, read, create, setWord, flush, force, store, empty, pass, step, reopen, restep, mark, back, look}
 use Rattle.calls.specs.Looks.{Look}
 use Rattle.acceptance.specs.Looks.{look-keeps}
 use Rattle.acceptance.specs.Calls.{refused-keeps}
@@ -22,6 +22,7 @@ use Rattle.demand.proofs.HoldsWaiting.{await-holds, storing-holds}
 use Rattle.demand.proofs.Begin.{open-begin}
 use Rattle.demand.proofs.Commit.{open-commit}
 use Rattle.demand.proofs.Abort.{open-abort}
+use Rattle.demand.proofs.Rights.{open-grant}
 use Rattle.demand.proofs.Locks.{open-lock-read, open-lock-write}
 use Rattle.demand.proofs.Reading.{open-read}
 use Rattle.demand.proofs.Create.{open-create}
@@ -54,9 +55,10 @@ looked-keeps n s b q i = rw (look-keeps s q) i
 -- every accepted call keeps the invariant
 pub accepted-keeps : (n : ℕ) → 1 ≤ n → (s : Areas) (b : Book) (c : Call) → Inv3 n s b → accepted (perform s c .answer) ≡ true → Kept n s b c
 unfolding perform
-accepted-keeps n some s b (begin t) i a = when-open n s b (begin t) refl (λ o. open-store (open-begin n some s b o t a)) i a
+accepted-keeps n some s b (begin t c) i a = when-open n s b (begin t c) refl (λ o. open-store (open-begin n some s b o t c a)) i a
 accepted-keeps n some s b (commit t) i a = when-open n s b (commit t) refl (λ o. open-store (open-commit n some s b o t a)) i a
 accepted-keeps n some s b (abort t) i a = when-open n s b (abort t) refl (λ o. open-store (open-abort n some s b o t a)) i a
+accepted-keeps n some s b (grant c p r) i a = when-open n s b (grant c p r) refl (λ o. open-store (open-grant n some s b o c p r a)) i a
 accepted-keeps n some s b (lockRead t p) i a = when-open n s b (lockRead t p) refl (λ o. open-store (open-lock-read n some s b o t p a)) i a
 accepted-keeps n some s b (lockWrite t p) i a = when-open n s b (lockWrite t p) refl (λ o. open-store (open-lock-write n some s b o t p a)) i a
 accepted-keeps n some s b (read t x buffer) i a = when-open n s b (read t x buffer) refl (λ o. open-store (open-read n some s b o t x buffer a)) i a

@@ -24,7 +24,7 @@ use Rattle.areas.specs.Layout.{reopeningPageAt, phaseAt, passPageAt, undoingAt,
 use Rattle.areas.specs.Tables.{at}
 use Rattle.areas.specs.Entry.{pages, records, reopening}
 use Rattle.calls.specs.Calls.{Call, reopens, perform}
-use Rattle.calls.specs.Calls.Call.{begin, commit, abort, lockRead, lockWrite, read, create, setWord, flush, force, store, empty, pass, step, reopen, restep, mark, back, look}
+use Rattle.calls.specs.Calls.Call.{begin, commit, abort, grant, lockRead, lockWrite, read, create, setWord, flush, force, store, empty, pass, step, reopen, restep, mark, back, look}
 use Rattle.calls.specs.Marks.{backTo}
 use Rattle.calls.specs.Formatting.{formatted, cut}
 use Rattle.calls.specs.Pass.{advanced, freedMap, sweepMap, locked, sweepTests, lowestGrey, callStep}
@@ -35,6 +35,7 @@ use Rattle.acceptance.specs.Lengths.{Sized}
 use Rattle.acceptance.specs.Working.{Working}
 use Rattle.acceptance.specs.Ran.{Outcome}
 use Rattle.acceptance.specs.Transactions.{begin-outcome, begin-facts, commit-outcome, commit-facts, abort-outcome, abort-facts}
+use Rattle.acceptance.specs.Rights.{grant-outcome, grant-facts}
 use Rattle.acceptance.specs.Locks.{lock-read-outcome, lock-read-facts, lock-write-outcome, lock-write-facts}
 use Rattle.acceptance.specs.Objects.{read-outcome, read-facts, create-outcome, create-facts, set-outcome, set-facts, flush-outcome, flush-facts}
 use Rattle.acceptance.specs.Stability.{force-outcome, store-outcome, store-facts, empty-outcome}
@@ -56,6 +57,7 @@ use Rattle.demand.proofs.Finished.{accepted-open}
 use Rattle.demand.proofs.Begin.{open-begin}
 use Rattle.demand.proofs.Commit.{open-commit}
 use Rattle.demand.proofs.Abort.{open-abort}
+use Rattle.demand.proofs.Rights.{open-grant}
 use Rattle.demand.proofs.Locks.{open-lock-read, open-lock-write}
 use Rattle.demand.proofs.Reading.{open-read}
 use Rattle.demand.proofs.Create.{open-create}
@@ -74,7 +76,7 @@ use Rattle.demand.proofs.Restep.{restep-kept}
 use Rattle.demand.proofs.Start.{start-inv}
 use Rattle.demand.proofs.Theorem.{keep}
 use Rattle.guarantees.proofs.Through.{through}
-use Rattle.guarantees.proofs.Tables.{Within, set-within, word, reopening-page, read-locked-within, write-locked-within, learned-within, started-within, scanning-within, turning-within, advanced-within, emptied-within, clear-within}
+use Rattle.guarantees.proofs.Tables.{Within, set-within, word, reopening-page, granted-within, read-locked-within, write-locked-within, learned-within, started-within, scanning-within, turning-within, advanced-within, emptied-within, clear-within}
 use Rattle.guarantees.proofs.Sound.{Firm, firm-stop}
 use Rattle.guarantees.proofs.Fine.{Fine, resized, in-range, open-fine, quiet-fine}
 use Rattle.guarantees.proofs.Reserve.{held-none}
@@ -206,12 +208,15 @@ module _ (n : ℕ) (some : 1 ≤ n) (s : Areas) (b : Book) (f : Fine n s b) (v :
 
   pub accepted-fine : (c : Call) → accepted (perform s c .answer) ≡ true → Fine n (perform s c .after) (fed n b c (s .received) (perform s c .after .received))
   unfolding perform fed
-  accepted-fine (begin t) a = let i = here (begin t) refl a in
-      fine-through true s _ _ _ n _ (begin-outcome s t) a (i .size) (open-begin n some s b i t a) (λ h k j. begun-fine n some s b i f h t (begin-facts s n t k) j)
+  accepted-fine (begin t c) a = let i = here (begin t c) refl a in
+      fine-through true s _ _ _ n _ (begin-outcome s t c) a (i .size) (open-begin n some s b i t c a) (λ h k j. begun-fine n some s b i f h t c (begin-facts s n t c k) j)
   accepted-fine (commit t) a = let i = here (commit t) refl a in
       fine-through true s _ _ _ n _ (commit-outcome s t) a (i .size) (open-commit n some s b i t a) (λ h k j. committed-fine n some s b i f h t (commit-facts s n t k) j)
   accepted-fine (abort t) a = let i = here (abort t) refl a in
       fine-through true s _ _ _ n _ (abort-outcome s t) a (i .size) (open-abort n some s b i t a) (λ h k j. aborted-fine n some s b i f h t (abort-facts s n t k))
+  accepted-fine (grant c p r) a = let i = here (grant c p r) refl a in
+      fine-through true s _ _ _ n _ (grant-outcome s c p r) a (i .size) (open-grant n some s b i c p r a)
+      (λ h k j. let g = grant-facts s n c p r k in quiet-fine n some s b b _ j f h (granted-within (s .work) n (records s) c p r (table i h) (g .client) (g .page) (g .right)) refl refl refl refl)
   accepted-fine (lockRead t p) a = let i = here (lockRead t p) refl a in
       fine-through true s _ _ _ n _ (lock-read-outcome s t p) a (i .size) (open-lock-read n some s b i t p a)
       (λ h k j. let g = lock-read-facts s n t p k in quiet-fine n some s b b _ j f h (read-locked-within (s .work) n (records s) some (table i h) t p (g .txn) (g .page)) refl refl refl refl)

@@ -7,7 +7,7 @@ use mathlib.Core.List.{List}
 use Rattle.areas.specs.Answers.{accepted}
 use Rattle.areas.specs.Areas.{Areas}
 use Rattle.calls.specs.Calls.{Call, reopens, perform}
-use Rattle.calls.specs.Calls.Call.{begin, commit, abort, lockRead, lockWrite, read, create, setWord, flush, force, store, empty, pass, step, reopen, restep, mark, back, look}
+use Rattle.calls.specs.Calls.Call.{begin, commit, abort, grant, lockRead, lockWrite, read, create, setWord, flush, force, store, empty, pass, step, reopen, restep, mark, back, look}
 use Rattle.book.specs.Books.{Book, opened}
 use Rattle.book.specs.Feeding.{fed}
 use Rattle.demand.proofs.State.{OpenInv, Inv3}
@@ -23,9 +23,10 @@ module _ (n : ℕ) (some : 1 ≤ n) (s : Areas) (b : Book) (v : Inv3 n s b) wher
   pub closed-after : (A : Call → Type 0) → (accepted (perform s reopen .answer) ≡ true → A reopen) → (accepted (perform s restep .answer) ≡ true → A restep)
       → (c : Call) → accepted (perform s c .answer) ≡ true → (r : List ℕ) → (fed n b c (s .received) r .stage ≡ opened → ⊥) → A c
   unfolding fed perform
-  closed-after A x y (begin t) a r shut = absurd (shut (here (begin t) refl a .stage))
+  closed-after A x y (begin t c) a r shut = absurd (shut (here (begin t c) refl a .stage))
   closed-after A x y (commit t) a r shut = absurd (shut (here (commit t) refl a .stage))
   closed-after A x y (abort t) a r shut = absurd (shut (here (abort t) refl a .stage))
+  closed-after A x y (grant c p w) a r shut = absurd (shut (here (grant c p w) refl a .stage))
   closed-after A x y (lockRead t p) a r shut = absurd (shut (here (lockRead t p) refl a .stage))
   closed-after A x y (lockWrite t p) a r shut = absurd (shut (here (lockWrite t p) refl a .stage))
   closed-after A x y (read t o buffer) a r shut = absurd (shut (here (read t o buffer) refl a .stage))

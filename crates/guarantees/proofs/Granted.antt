@@ -18,7 +18,7 @@ use Rattle.areas.specs.Layout.{phaseAt, reopeningAt, reopeningPageAt, finished,
 use Rattle.areas.specs.Tables.{at}
 use Rattle.areas.specs.Entry.{pages, records}
 use Rattle.calls.specs.Calls.{Call, perform}
-use Rattle.calls.specs.Calls.Call.{begin, commit, abort, lockRead, lockWrite, read, create, setWord, flush, force, store, empty, pass, step, reopen, restep, mark, back, look}
+use Rattle.calls.specs.Calls.Call.{begin, commit, abort, grant, lockRead, lockWrite, read, create, setWord, flush, force, store, empty, pass, step, reopen, restep, mark, back, look}
 use Rattle.calls.specs.Formatting.{formatted, cut}
 use Rattle.calls.specs.Locks.{readLocked, writeLocked}
 use Rattle.calls.specs.Objects.{created, wordSet, flushed}
@@ -30,6 +30,7 @@ use Rattle.calls.specs.Marks.{markSet, backTo}
 use Rattle.acceptance.specs.Calls.{refused-keeps}
 use Rattle.acceptance.specs.Entered.{Open, opened}
 use Rattle.acceptance.specs.Transactions.{begin-outcome, begin-facts, commit-outcome, abort-outcome}
+use Rattle.acceptance.specs.Rights.{grant-outcome}
 use Rattle.acceptance.specs.Locks.{lock-read-outcome, lock-read-facts, lock-write-outcome, lock-write-facts}
 use Rattle.acceptance.specs.Objects.{read-outcome, read-facts, create-outcome, create-facts, set-outcome, set-facts, flush-outcome, flush-facts}
 use Rattle.acceptance.specs.Stability.{force-outcome, store-outcome, empty-outcome}
@@ -59,6 +60,7 @@ use Rattle.demand.proofs.State.{OpenInv, Inv3}
 use Rattle.demand.proofs.Holds.{sweeping-phase}
 use Rattle.demand.proofs.HoldsWaiting.{step-entered, storing-opened}
 use Rattle.demand.proofs.Marks.{mark-beside, gone}
+use Rattle.demand.proofs.Rights.{grant-beside}
 use Rattle.demand.proofs.Passing.{scan-same, turn-same, advance-same}
 use Rattle.demand.proofs.Rest.{no-locks}
 use Rattle.guarantees.specs.Disks.{fromDisk}
@@ -176,10 +178,12 @@ module _ (n : ℕ) (some : 1 ≤ n) (s : Areas) (b : Book) (v : Inv3 n s b) (l :
 
   pub accepted-agrees : (c : Call) → accepted (perform s c .answer) ≡ true → Agrees n (perform s c .after .work) (granting l c)
   unfolding perform begun committed aborted created wordSet flushed markSet backTo
-  accepted-agrees (begin t) a = through true s _ _ _ n (Leaves l) (begin-outcome s t) a (here n some s b v (begin t) refl a .size)
-      (λ h k. let e = begin-locks (s .work) n t some (h .sized .tables .1) (begin-facts s n t k .txn) in agrees-same n (s .work) _ l (ap (λ (k : Locks). k .rd) e) (ap (λ (k : Locks). k .wr) e) g)
+  accepted-agrees (begin t c) a = through true s _ _ _ n (Leaves l) (begin-outcome s t c) a (here n some s b v (begin t c) refl a .size)
+      (λ h k. let e = begin-locks (s .work) n t some c (begin-facts s n t c k .txn) (h .sized .tables .1) in agrees-same n (s .work) _ l (ap (λ (k : Locks). k .rd) e) (ap (λ (k : Locks). k .wr) e) g)
   accepted-agrees (commit t) a = through true s _ _ _ n (Leaves (fallen l t)) (commit-outcome s t) a (here n some s b v (commit t) refl a .size) (λ h k. end-agrees n (s .work) l g (h .sized .tables .1) t)
   accepted-agrees (abort t) a = through true s _ _ _ n (Leaves (fallen l t)) (abort-outcome s t) a (here n some s b v (abort t) refl a .size) (λ h k. end-agrees n (s .work) l g (h .sized .tables .1) t)
+  accepted-agrees (grant c p r) a = through true s _ _ _ n (Leaves l) (grant-outcome s c p r) a (here n some s b v (grant c p r) refl a .size)
+      (λ h k. kept-locks n (s .work) _ l (locks-kept (grant-beside (s .work) n c p r) n (inr (omega arith))) g)
   accepted-agrees (lockRead t p) a = through true s _ _ _ n (Leaves (granting l (lockRead t p))) (lock-read-outcome s t p) a (here n some s b v (lockRead t p) refl a .size)
       (λ h k. let f = lock-read-facts s n t p k in read-agrees n (s .work) l g (h .sized .tables .1) t p (f .page) (f .txn))
   accepted-agrees (lockWrite t p) a = through true s _ _ _ n (Leaves (granting l (lockWrite t p))) (lock-write-outcome s t p) a (here n some s b v (lockWrite t p) refl a .size)

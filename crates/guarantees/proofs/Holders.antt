@@ -1,26 +1,21 @@
--- Whom refusal 6 tells, by the ledger of locks, at every point of every list. n is the number of pages. Assumes nothing.
+-- The ledger of locks and the book: who has a page, and whom refusal 6 tells. n is the number of pages. Assumes nothing.
 use Prim.Native.Nat.{ℕ, _<_}
 use native.Mathlib.Omega.{arith}
 use mathlib.Core.Path.{_≡_, refl, sym, ap, _∙_}
-use mathlib.Core.Bool.{Bool, true, false, not, _&&_}
+use mathlib.Core.Bool.{Bool, true, not, _&&_}
 use mathlib.Core.List.{List}
 use mathlib.Core.Logic.{inl, inr}
-use lib.Dec.{eqb, ltb}
-use borrow.Author.Tests.{eq-eqb, lt-ltb}
-use Rattle.words.specs.Tests.{if, any, lowest, clash, and-split, or-cases, any-same, any-elim}
+use lib.Dec.{eqb}
+use Rattle.words.specs.Tests.{lowest, clash, and-split, or-cases, any-elim}
 use Rattle.words.specs.Bits.{bit}
 use Rattle.words.specs.Lowest.{lowest-same}
 use Rattle.records.specs.Records.{txnCount}
-use Rattle.areas.specs.declared.Refusal.the-variants.{Held}
-use Rattle.areas.specs.declared.Answer.the-variants.{Done, Refused}
-use Rattle.areas.specs.declared.Check.the-variants.{Accept}
-use Rattle.areas.specs.Answers.{unless}
-use Rattle.areas.specs.Areas.{Areas, done, checked, withWork}
+use Rattle.areas.specs.Areas.{Areas}
 use Rattle.areas.specs.Layout.{readersAt, writersAt}
-use Rattle.areas.specs.Tables.{at, isTxn, isActive, canRead}
-use Rattle.areas.specs.Entry.{pages, records, wellFormed, isReady}
-use Rattle.calls.specs.Locks.{noOther, holderOf, readLocked, writeLocked}
-use Rattle.calls.specs.Calls.{perform, lockRead, lockWrite}
+use Rattle.areas.specs.Tables.{at, isActive, canRead}
+use Rattle.areas.specs.Entry.{pages, records}
+use Rattle.calls.specs.Locks.{holderOf}
+use Rattle.calls.specs.Calls.{lockRead, lockWrite}
 use Rattle.acceptance.specs.Entered.{open-formed}
 use Rattle.acceptance.specs.Working.{Working}
 use Rattle.book.specs.Books.{Book}
@@ -32,17 +27,16 @@ use Rattle.machine_calls.proofs.Facts.{act-is}
 use Rattle.demand.proofs.State.{machine, OpenInv, Inv3, open-store, cut-store, reopening-store}
 use Rattle.demand.proofs.Change.{machine-shows}
 use Rattle.demand.proofs.HoldsWaiting.{awaiting-opened, storing-opened}
-use Rattle.guarantees.specs.Holders.{Barred, Lowest, Granted, grants, holds, other, answerBy, ByLedger, AlwaysByLedger}
+use Rattle.guarantees.specs.Holders.{Barred, Lowest, Granted, holds, other}
 use Rattle.guarantees.proofs.Fine.{Fine}
 use Rattle.guarantees.proofs.Always.{Sure}
 use Rattle.guarantees.proofs.Refusals.{formed}
-use Rattle.guarantees.proofs.Barred.{Tests, tested, read-tested, write-tested, free-one, free-both, read-stopped, write-stopped, page-in, read-barred, read-tells, write-tells}
-use Rattle.guarantees.proofs.Ledgers.{always-kept}
-use Rattle.guarantees.proofs.Granted.{Agrees, Closed, Ledgered, keep-ledger, start-ledger, disk-ledger}
+use Rattle.guarantees.proofs.Barred.{read-stopped, write-stopped, page-in, read-barred, read-tells, write-tells}
+use Rattle.guarantees.proofs.Granted.{Agrees, Closed, Ledgered}
 
 -- the masks of page p, by the ledger
 module _ (n : ℕ) (w : List ℕ) (l : Granted) (a : Agrees n w l) (p : ℕ) (below : p < n) where
-  writes-bit : (u : ℕ) → u < txnCount → l .writes u p ≡ bit (at w (writersAt n p)) u
+  pub writes-bit : (u : ℕ) → u < txnCount → l .writes u p ≡ bit (at w (writersAt n p)) u
   writes-bit u k = a .writers u p ∙ page-bit w n (writersAt n) u p k below
 
   pub holds-bit : (u : ℕ) → u < txnCount → holds l u p ≡ canRead w n u p
@@ -51,18 +45,9 @@ module _ (n : ℕ) (w : List ℕ) (l : Granted) (a : Agrees n w l) (p : ℕ) (be
   told-by : (t h : ℕ) → Lowest (λ u. canRead w n u p) t h → Lowest (λ u. holds l u p) t h
   told-by t h k = let m = k .txn in record { txn = m; other = k .other; holds = holds-bit h m ∙ k .holds; first = λ u c d. holds-bit u (omega arith) ∙ k .first u c d }
 
-  holder-by : (t : ℕ) → holderOf w n t p ≡ lowest (other t (λ u. holds l u p)) txnCount
+  pub holder-by : (t : ℕ) → holderOf w n t p ≡ lowest (other t (λ u. holds l u p)) txnCount
   unfolding holderOf
   holder-by t = lowest-same _ _ txnCount (λ u k. ap (λ (x : Bool). not (eqb u t) && x) (sym (holds-bit u k)))
-
--- past refusals 1 to 4
-answered : (x : Bool) (h : ℕ) (s a : Areas) → checked (unless (not x) (Held h) Accept) s (done 0 a) .answer ≡ if x (Refused (Held h)) (Done 0)
-answered true h s a = refl
-answered false h s a = refl
-
-answers : (c : Tests) (h : ℕ) (s a : Areas) → c .form ≡ true → c .ready ≡ true → c .range ≡ true → c .active ≡ true → (x : Bool) → c .free ≡ not x
-    → checked (tested c h) s (done 0 a) .answer ≡ if x (Refused (Held h)) (Done 0)
-answers c h s a e1 e2 e3 e4 x e5 = rw (e1, e2, e3, e4, e5) (answered x h s a)
 
 -- an open store, by the ledger and the book
 module _ (n : ℕ) (s : Areas) (b : Book) (i : OpenInv n s b) (z : Fine n s b) (l : Granted) (a : Agrees n (s .work) l) where
@@ -73,32 +58,8 @@ module _ (n : ℕ) (s : Areas) (b : Book) (i : OpenInv n s b) (z : Fine n s b) (
   pub active-bit : (t : ℕ) → (b .running t ≡ 0 → ⊥) → isActive (s .work) t ≡ true
   active-bit t r = sym (act-is s n (machine n s b) (machine-shows n s b) t (active-in t r)) ∙ i .runs t r
 
-  open-word : Working (s .work) n (records s)
+  pub open-word : Working (s .work) n (records s)
   open-word = rw (i .size) at (open-formed true s (formed n s b z true refl) (i .word) .ranged .working)
-
-  -- the tests of a lock, for n pages
-  abbrev asked : ℕ → ℕ → Bool → Tests
-  asked t p free = record { form = wellFormed true s; ready = isReady true s; range = isTxn t && ltb p n; active = isActive (s .work) t; free = free }
-
-  -- it is free where f holds of no other one
-  answer-so : (t p : ℕ) → (b .running t ≡ 0 → ⊥) → p < n → (free : Bool) (f : ℕ → Bool) (k : Areas) → free ≡ not (any (other t f) txnCount)
-      → checked (tested (asked t p free) (holderOf (s .work) n t p)) s (done 0 k) .answer ≡ answerBy l t p f
-  unfolding answerBy
-  answer-so t p r h free f k e =
-      answers (asked t p free) (holderOf (s .work) n t p) s k (formed n s b z true refl) (eq-eqb _ _ (i .word)) (rw (lt-ltb t txnCount (active-in t r)) (lt-ltb p n h)) (active-bit t r)
-      (any (other t f) txnCount) e ∙ rw (holder-by n (s .work) l a p h t)
-
-  -- another, by the ledger and by a mask
-  as-other : (f g : ℕ → Bool) (t : ℕ) → ((u : ℕ) → u < txnCount → f u ≡ g u) → not (any (other t g) txnCount) ≡ not (any (other t f) txnCount)
-  as-other f g t e = ap not (any-same _ _ txnCount (λ u k. ap (λ (x : Bool). not (eqb u t) && x) (sym (e u k))))
-
-  reads-so : (t p : ℕ) → (b .running t ≡ 0 → ⊥) → p < n → perform s (lockRead t p) .answer ≡ answerBy l t p (λ u. l .writes u p)
-  reads-so t p r h = rw (read-tested s t p, i .size) (answer-so t p r h (noOther (s .work) (writersAt n p) t) (λ u. l .writes u p) (withWork s (readLocked (s .work) n t p))
-      (free-one (at (s .work) (writersAt n p)) t (open-word .writers p h) ∙ as-other _ _ t (writes-bit n (s .work) l a p h)))
-
-  writes-so : (t p : ℕ) → (b .running t ≡ 0 → ⊥) → p < n → perform s (lockWrite t p) .answer ≡ answerBy l t p (λ u. holds l u p)
-  writes-so t p r h = rw (write-tested s t p, i .size) (answer-so t p r h (noOther (s .work) (readersAt n p) t && noOther (s .work) (writersAt n p) t) (λ u. holds l u p) (withWork s (writeLocked (s .work) n t p))
-      (free-both (at (s .work) (readersAt n p)) (at (s .work) (writersAt n p)) t (open-word .readers p h) (open-word .writers p h) ∙ as-other _ _ t (holds-bit n (s .work) l a p h)))
 
   -- who has a page runs; a writer has it alone
   pub runs-so : (u p : ℕ) → holds l u p ≡ true → b .running u ≡ 0 → ⊥
@@ -107,7 +68,7 @@ module _ (n : ℕ) (s : Areas) (b : Book) (i : OpenInv n s b) (z : Fine n s b) (
     | inr d ↦ i .active u (i .collector .exclusive .writer u p d .0)
   ]
 
-  alone-so : (u v p : ℕ) → l .writes u p ≡ true → holds l v p ≡ true → (l .writes v p ≡ true) × (v ≡ u)
+  pub alone-so : (u v p : ℕ) → l .writes u p ≡ true → holds l v p ≡ true → (l .writes v p ≡ true) × (v ≡ u)
   alone-so u v p e d = let w = sym (a .writers u p) ∙ e in
       elim (or-cases (locksOf (s .work) n .rd v p) (locksOf (s .work) n .wr v p) (sym (a .holders v p) ∙ d)) [
         | inl k ↦ clash k (i .collector .exclusive .alone u v p w)
@@ -116,12 +77,12 @@ module _ (n : ℕ) (s : Areas) (b : Book) (i : OpenInv n s b) (z : Fine n s b) (
 
 -- which store is open
 module _ (n : ℕ) (s : Areas) (b : Book) where
-  open-running : Inv3 n s b → (t : ℕ) → (b .running t ≡ 0 → ⊥) → OpenInv n s b
+  pub open-running : Inv3 n s b → (t : ℕ) → (b .running t ≡ 0 → ⊥) → OpenInv n s b
   open-running (open-store i) t r = i
   open-running (cut-store i) t r = absurd (r (i .waiting .idle t))
   open-running (reopening-store k h i) t r = absurd (r (i .waiting .idle t))
 
-  open-held : Inv3 n s b → (l : Granted) → Closed b l → (u p : ℕ) → holds l u p ≡ true → OpenInv n s b
+  pub open-held : Inv3 n s b → (l : Granted) → Closed b l → (u p : ℕ) → holds l u p ≡ true → OpenInv n s b
   open-held (open-store i) l c u p e = i
   open-held (cut-store i) l c u p e = clash e (c (λ d. awaiting-opened (sym (i .stage) ∙ d)) u p)
   open-held (reopening-store k h i) l c u p e = clash e (c (λ d. storing-opened (sym (i .stage) ∙ d)) u p)
@@ -136,16 +97,16 @@ module _ (n : ℕ) (q : Point) (l : Granted) (z : Sure n q) (j : Ledgered n q l)
   size : pages s ≡ n
   size = z .fine .sized .count
 
-  read-told : (t p h : ℕ) → Barred s (lockRead t p) h → Lowest (λ u. holds l u p) t h
+  pub read-told : (t p h : ℕ) → Barred s (lockRead t p) h → Lowest (λ u. holds l u p) t h
   read-told t p h e = let k = read-stopped s t p h e in
       told-by n (s .work) l (j .agrees) p (rw size at (page-in s t p h (k .ranged))) t h (rw size at (read-tells s t p h k))
 
-  write-told : (t p h : ℕ) → Barred s (lockWrite t p) h → Lowest (λ u. holds l u p) t h
+  pub write-told : (t p h : ℕ) → Barred s (lockWrite t p) h → Lowest (λ u. holds l u p) t h
   write-told t p h e = let k = write-stopped s t p h e in
       told-by n (s .work) l (j .agrees) p (rw size at (page-in s t p h (k .ranged))) t h (rw size at (write-tells s t p h k))
 
   -- one that bars a reader writes the page
-  writer-told : (t p h : ℕ) → Barred s (lockRead t p) h → l .writes h p ≡ true
+  pub writer-told : (t p h : ℕ) → Barred s (lockRead t p) h → l .writes h p ≡ true
   writer-told t p h e =
       let k = read-stopped s t p h e in
       let m : p < n = rw size at (page-in s t p h (k .ranged)) in
@@ -153,17 +114,3 @@ module _ (n : ℕ) (q : Point) (l : Granted) (z : Sure n q) (j : Ledgered n q l)
       any-elim _ txnCount (rw size at (read-barred s t p h k)) (λ u c d.
       let o = and-split (not (eqb u t)) (bit (at (s .work) (writersAt n p)) u) d in
       alone-so n s b i (z .fine) l (j .agrees) u h p (writes-bit n (s .work) l (j .agrees) p m u c ∙ o .1) (read-told t p h e .holds) .0)
-
-  by-ledger : ByLedger q l
-  by-ledger = record {
-    reading = λ t p r h. reads-so n s b (open-running n s b (z .inv) t r) (z .fine) l (j .agrees) t p r (rw size at h);
-    writing = λ t p r h. writes-so n s b (open-running n s b (z .inv) t r) (z .fine) l (j .agrees) t p r (rw size at h);
-    told-reading = read-told;
-    told-writing = write-told;
-    runs = λ u p e. runs-so n s b (open-held n s b (z .inv) l (j .closed) u p e) (z .fine) l (j .agrees) u p e;
-    writer = writer-told;
-    alone = λ u v p e d. alone-so n s b (open-held n s b (z .inv) l (j .closed) v p d) (z .fine) l (j .agrees) u v p e d .1;
-  }
-
-pub always-by-ledger : AlwaysByLedger
-always-by-ledger = always-kept Granted grants Ledgered ByLedger keep-ledger by-ledger start-ledger disk-ledger

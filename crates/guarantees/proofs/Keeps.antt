@@ -78,16 +78,16 @@ module _ (n : ℕ) (some : 1 ≤ n) (s : Areas) (b : Book) (i : OpenInv n s b) (
   committed-sound = f .firm 0 (omega arith)
 
   -- begin
-  pub begun-fine : (t : ℕ) → BeginFacts s n t → OpenInv n (begun s n t) (begins b t) → Fine n (begun s n t) (begins b t)
+  pub begun-fine : (t c : ℕ) → BeginFacts s n t c → OpenInv n (begun s n t c) (begins b t) → Fine n (begun s n t c) (begins b t)
   unfolding begun effect
-  begun-fine t k j =
+  begun-fine t c k j =
       let room = beyond 2 (k .room) in
       let hold = held-begin b (i .book) t (k .txn) in
       let idle : b .running t ≡ 0 = stopped-one t k in
-      added-fine n some s b (begins b t) (beginOf t) _ j f h (begun-within (s .work) n (records s) some within t (k .txn)) (h .ranged .received-sound)
+      added-fine n some s b (begins b t) (beginOf t) _ j f h (begun-within (s .work) n (records s) some within t c (k .txn) (k .client) (let r = k .room in omega arith)) (h .ranged .received-sound)
       (firm-idle n b (begins b t) (line (beginOf t) (b .begun + 1)) refl refl refl (i .book .stable) (begin-committed b (i .book) t (k .txn) idle) (f .firm)) (omega arith)
     where
-      stopped-one : (t : ℕ) → BeginFacts s n t → b .running t ≡ 0
+      stopped-one : (t : ℕ) → BeginFacts s n t c → b .running t ≡ 0
       stopped-one t k = by-bool (eqb (b .running t) 0) (λ e. eqb-true _ _ e)
           (λ e. clash (sym (act-is s n (machine n s b) (machine-shows n s b) t (k .txn)) ∙ i .runs t (eqb-false _ _ e)) (k .inactive))
 

@@ -25,6 +25,8 @@ pub mod Steps
 pub mod Shares
 pub mod Barred
 pub mod Holders
+pub mod Permitted
+pub mod LockAnswers
 pub mod MarkNotes
 pub mod MarkSteps
 pub mod MarkMoves
@@ -33,6 +35,7 @@ pub mod Untouched
 pub mod Restoring
 pub mod Readers
 pub mod Recall
+pub mod Rights
 pub mod OwnLines
 pub mod OwnPages
 pub mod OwnNumbers

@@ -21,7 +21,7 @@ use Rattle.areas.specs.Layout.{phaseAt, passPageAt, reopeningAt, reopeningPageA
 use Rattle.areas.specs.Tables.{at}
 use Rattle.areas.specs.Entry.{pages, records}
 use Rattle.calls.specs.Calls.{Call, reopens, perform}
-use Rattle.calls.specs.Calls.Call.{begin, commit, abort, lockRead, lockWrite, read, create, setWord, flush, force, store, empty, pass, step, reopen, restep, mark, back, look}
+use Rattle.calls.specs.Calls.Call.{begin, commit, abort, grant, lockRead, lockWrite, read, create, setWord, flush, force, store, empty, pass, step, reopen, restep, mark, back, look}
 use Rattle.calls.specs.Formatting.{formatted, cut}
 use Rattle.calls.specs.Marks.{orderOf, markSet, backTo}
 use Rattle.calls.specs.Objects.{created, wordSet, flushed}
@@ -33,6 +33,7 @@ use Rattle.acceptance.specs.Calls.{refused-keeps}
 use Rattle.acceptance.specs.Entered.{Open, opened}
 use Rattle.acceptance.specs.Looks.{look-keeps}
 use Rattle.acceptance.specs.Transactions.{begin-outcome, begin-facts, commit-outcome, commit-facts, abort-outcome, abort-facts}
+use Rattle.acceptance.specs.Rights.{grant-outcome}
 use Rattle.acceptance.specs.Locks.{lock-read-outcome, lock-read-facts, lock-write-outcome, lock-write-facts}
 use Rattle.acceptance.specs.Objects.{read-outcome, read-facts, create-outcome, create-facts, set-outcome, set-facts, flush-outcome, flush-facts}
 use Rattle.acceptance.specs.Stability.{force-outcome, store-outcome, empty-outcome}
@@ -56,6 +57,7 @@ use Rattle.book_laws.specs.After.{sweptBy}
 use Rattle.book_laws.specs.Seen.{seenCommitted}
 use Rattle.book_laws.proofs.Feeding.{sweep-committed}
 use Rattle.book_laws.proofs.Folds.{untouched}
+use Rattle.demand.proofs.Rights.{grant-beside}
 use Rattle.demand.proofs.State.{OpenInv, Inv3}
 use Rattle.demand.proofs.Finished.{accepted-open}
 use Rattle.demand.proofs.Holds.{sweeping-phase}
@@ -138,12 +140,14 @@ module _ (n : ℕ) (some : 1 ≤ n) (s : Areas) (b : Book) (v : Inv3 n s b) (l :
 
   accepted-marks : (c : Call) → accepted (perform s c .answer) ≡ true → OfTxn n (perform s c .after .work) (fed n b c (s .received) (perform s c .after .received)) (noting l c (s .received)) t
   unfolding perform fed begun committed aborted created wordSet flushed markSet backTo
-  accepted-marks (begin u) a = let i = here (begin u) refl a in through true s _ _ _ n (Leaves _ _) (begin-outcome s u) a (i .size)
-      (λ h k. begun-marks n some s b i h l g t small o u (begin-facts s n u k))
+  accepted-marks (begin u c) a = let i = here (begin u c) refl a in through true s _ _ _ n (Leaves _ _) (begin-outcome s u c) a (i .size)
+      (λ h k. begun-marks n some s b i h l g t small o u c (begin-facts s n u c k))
   accepted-marks (commit u) a = let i = here (commit u) refl a in through true s _ _ _ n (Leaves _ _) (commit-outcome s u) a (i .size)
       (λ h k. let f = commit-facts s n u k in committed-marks n some s b i h l g t small o u (f .txn) (active-runs n some s b i h l g t small o u (f .txn) (f .active)))
   accepted-marks (abort u) a = let i = here (abort u) refl a in through true s _ _ _ n (Leaves _ _) (abort-outcome s u) a (i .size)
       (λ h k. let f = abort-facts s n u k in aborted-marks n some s b i h l g t small o u (f .txn) (active-runs n some s b i h l g t small o u (f .txn) (f .active)))
+  accepted-marks (grant d p r) a = through true s _ _ _ n (Leaves _ _) (grant-outcome s d p r) a (here (grant d p r) refl a .size)
+      (λ h k. quiet n (s .work) _ b b l _ t o (λ m c. grant-beside (s .work) n d p r .below (orderAt n t m) (omega arith)) refl refl refl refl (λ q e. e) refl refl)
   accepted-marks (lockRead u p) a = through true s _ _ _ n (Leaves _ _) (lock-read-outcome s u p) a (here (lockRead u p) refl a .size)
       (λ h k. quiet n (s .work) _ b b l _ t o (λ m c. lock-read-beside (s .work) n u p (lock-read-facts s n u p k .page) .above (orderAt n t m) (omega arith)) refl refl refl refl (λ q e. e) refl refl)
   accepted-marks (lockWrite u p) a = through true s _ _ _ n (Leaves _ _) (lock-write-outcome s u p) a (here (lockWrite u p) refl a .size)
@@ -187,9 +191,10 @@ pub record Restorable (n : ℕ) (q : Point) (l : Noted) : Type 0 where
 
 -- its locks are those of the ledger of locks
 noted-granted : (l : Noted) (c : Call) (r : List ℕ) → noting l c r .granted ≡ granting (l .granted) c
-noted-granted l (begin t) r = refl
+noted-granted l (begin t c) r = refl
 noted-granted l (commit t) r = refl
 noted-granted l (abort t) r = refl
+noted-granted l (grant c p x) r = refl
 noted-granted l (lockRead t p) r = refl
 noted-granted l (lockWrite t p) r = refl
 noted-granted l (read t o buffer) r = refl

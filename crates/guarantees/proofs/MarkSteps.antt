@@ -14,18 +14,18 @@ use Rattle.pages.specs.Geometry.{pageOf}
 use Rattle.records.specs.declared.Record.{Record}
 use Rattle.records.specs.Records.{txnCount, beginOf, commitOf, abortedOf, isSweep}
 use Rattle.areas.specs.Areas.{Areas}
-use Rattle.areas.specs.Layout.{activeAt, markCount, orderAt, undoingFrom}
-use Rattle.areas.specs.Tables.{gain, isActive}
+use Rattle.areas.specs.Layout.{markCount, orderAt, undoingFrom}
+use Rattle.areas.specs.Tables.{isActive}
 use Rattle.calls.specs.Calls.Call.{begin, commit, abort}
 use Rattle.calls.specs.Marks.{orderOf}
-use Rattle.calls.specs.Transactions.{knowsRoot, endedTables}
+use Rattle.calls.specs.Transactions.{begunTables, endedTables}
 use Rattle.acceptance.specs.Entered.{Open}
 use Rattle.acceptance.specs.Transactions.{BeginFacts}
 use Rattle.book.specs.Lines.{line, left, undoneLines}
 use Rattle.book.specs.Books.{Book}
 use Rattle.book.specs.Feeding.{withLines, adds, begins, ends, goesBack}
 use Rattle.machine_calls.specs.Tables.{locksOf}
-use Rattle.machine_calls.proofs.Begun.{begin-beside}
+use Rattle.machine_calls.proofs.Begun.{begin-behind}
 use Rattle.machine_calls.proofs.Ended.{ended-unset, ended-others}
 use Rattle.machine_calls.proofs.Facts.{act-is}
 use Rattle.book_laws.specs.After.{committedBy, abortedBy}
@@ -54,18 +54,18 @@ module _ (n : ℕ) (some : 1 ≤ n) (s : Areas) (b : Book) (i : OpenInv n s b) (
   not-other u p d e = by-bool (locksOf (s .work) n .wr u p) (λ z. absurd (d (i .writers .one t u p (sym (g .writers t p) ∙ e) z))) (λ z. z)
 
   -- another begins, or t does
-  pub begun-marks : (u : ℕ) → BeginFacts s n u → OfTxn n (knowsRoot (gain (s .work) activeAt u) n u) (begins b u) (locking l (begin u)) t
-  begun-marks u f = elim (ℕ-discrete t u) [
+  pub begun-marks : (u c : ℕ) → BeginFacts s n u c → OfTxn n (begunTables (s .work) n u c) (begins b u) (locking l (begin u c)) t
+  begun-marks u c f = elim (ℕ-discrete t u) [
     | yes e ↦ unmarked n _ _ _ t (λ m a. orders m a ∙ idle-unmarked n (s .work) b l t o (rw e idle) m a)
-    | no e ↦ stays-all n (s .work) _ b l (begins b u) (locking l (begin u)) t orders (λ r m. line-stays b l (begins b u) (locking l (begin u)) t m (line (beginOf u) (b .begun + 1)) refl
+    | no e ↦ stays-all n (s .work) _ b l (begins b u) (locking l (begin u c)) t orders (λ r m. line-stays b l (begins b u) (locking l (begin u c)) t m (line (beginOf u) (b .begun + 1)) refl
         (put-other (b .running) u (b .begun + 1) t e) refl (λ p d. d) refl refl (λ x d. begin-committed b (i .book) u (f .txn) idle .shows (b .origin) x)) o
   ]
     where
       idle : b .running u ≡ 0
       idle = elim (ℕ-discrete (b .running u) 0) [ yes e ↦ e | no e ↦ clash (i .runs u e) (act-is s n (machine n s b) (machine-shows n s b) u (f .txn) ∙ f .inactive) ]
 
-      orders : (m : ℕ) → m < markCount → orderOf (knowsRoot (gain (s .work) activeAt u) n u) n t m ≡ orderOf (s .work) n t m
-      orders m a = begin-beside (s .work) n u some .above (orderAt n t m) (omega arith)
+      orders : (m : ℕ) → m < markCount → orderOf (begunTables (s .work) n u c) n t m ≡ orderOf (s .work) n t m
+      orders m a = let e = f .txn in begin-behind (s .work) n u some c (f .txn) (orderAt n t m) (omega arith) (λ z. omega arith)
 
   -- create and set
   pub added-marks : (w : List ℕ) (b′ : Book) (u : ℕ) (r : Record) → ((m : ℕ) → m < markCount → orderOf w n t m ≡ orderOf (s .work) n t m) → Runs b u
@@ -80,10 +80,10 @@ module _ (n : ℕ) (some : 1 ≤ n) (s : Areas) (b : Book) (i : OpenInv n s b) (
     w = endedTables (s .work) n u
 
     over : t ≡ u → (m : ℕ) → m < markCount → orderOf w n t m ≡ 0
-    over e m a = rw e (ended-unset (s .work) n u m a (let z = len in omega arith))
+    over e m a = rw e (ended-unset (s .work) n u small-u m a (let z = len in omega arith))
 
     orders : (t ≡ u → ⊥) → (m : ℕ) → m < markCount → orderOf w n t m ≡ orderOf (s .work) n t m
-    orders d m a = ended-others (s .work) n u (orderAt n t m) (omega arith) (λ k c. (λ x. omega arith, λ x. d (omega arith)))
+    orders d m a = ended-others (s .work) n u (orderAt n t m) (omega arith) (λ x. omega arith) (λ k c. (λ x. omega arith, λ x. d (omega arith)))
 
     falls : (t ≡ u → ⊥) → (p : ℕ) → l .granted .writes t p ≡ true → fallen (l .granted) u .writes t p ≡ true
     falls d p e = rw (ne-eqb t u d) e

@@ -13,7 +13,7 @@ use Rattle.records.specs.declared.Record.{Record}
 use Rattle.records.specs.Records.{setOf}
 use Rattle.records.specs.Effects.{undoing}
 use Rattle.calls.specs.Calls.{Call}
-use Rattle.calls.specs.Calls.Call.{begin, commit, abort, lockRead, lockWrite, read, create, setWord, flush, force, store, empty, pass, step, reopen, restep, mark, back, look}
+use Rattle.calls.specs.Calls.Call.{begin, commit, abort, grant, lockRead, lockWrite, read, create, setWord, flush, force, store, empty, pass, step, reopen, restep, mark, back, look}
 use Rattle.book.specs.Lines.{Line, line, struckOut, isLeft, left, struckNewest, undoingNewest, undoneLines}
 use Rattle.book.specs.Books.{Book, fullPages}
 use Rattle.book.specs.Feeding.{clearedSlots, sweepLines, undoes, goesBack, fed}
@@ -40,9 +40,10 @@ went-origin (suc k) b t = went-origin k (undoes b t) t
 
 pub fed-origin : (n : ℕ) (b : Book) (r₀ r₁ : List ℕ) (c : Call) → fed n b c r₀ r₁ .origin ≡ b .origin
 unfolding fed
-fed-origin n b r₀ r₁ (begin t) = refl
+fed-origin n b r₀ r₁ (begin t c) = refl
 fed-origin n b r₀ r₁ (commit t) = refl
 fed-origin n b r₀ r₁ (abort t) = refl
+fed-origin n b r₀ r₁ (grant c p r) = refl
 fed-origin n b r₀ r₁ (lockRead t p) = refl
 fed-origin n b r₀ r₁ (lockWrite t p) = refl
 fed-origin n b r₀ r₁ (read t o buffer) = refl
@@ -134,9 +135,10 @@ module _ (G : ℕ → ℕ → Type 0) where
   module _ (n : ℕ) (b : Book) (h : Each OwnLine (b .lines)) (r₀ r₁ : List ℕ) where
     pub fed-own : (c : Call) → ((t o f v : ℕ) → c ≡ setWord t o f v → OwnLine (line (setOf t o f (wordOf (fullPages b) o f) v) (b .running t))) → Each OwnLine (fed n b c r₀ r₁ .lines)
     unfolding fed
-    fed-own (begin t) s = each-cons (unset _ _ (λ z. omega arith)) h
+    fed-own (begin t c) s = each-cons (unset _ _ (λ z. omega arith)) h
     fed-own (commit t) s = each-cons (unset _ _ (λ z. omega arith)) h
     fed-own (abort t) s = each-cons (unset _ _ (λ z. omega arith)) (undone-each (b .running t) (left (b .running t) (b .lines)) (b .lines) h)
+    fed-own (grant c p r) s = h
     fed-own (lockRead t p) s = h
     fed-own (lockWrite t p) s = h
     fed-own (read t o buffer) s = h

@@ -21,7 +21,7 @@ use Rattle.areas.specs.Areas.{Areas, Out, appended}
 use Rattle.areas.specs.Layout.{reopeningPageAt, passPageAt}
 use Rattle.areas.specs.Tables.{at}
 use Rattle.calls.specs.Calls.{Call, perform}
-use Rattle.calls.specs.Calls.Call.{begin, commit, abort, lockRead, lockWrite, read, create, setWord, flush, force, store, empty, pass, step, reopen, restep, mark, back, look}
+use Rattle.calls.specs.Calls.Call.{begin, commit, abort, grant, lockRead, lockWrite, read, create, setWord, flush, force, store, empty, pass, step, reopen, restep, mark, back, look}
 use Rattle.calls.specs.Formatting.{cut}
 use Rattle.calls.specs.Marks.{wentBack, backTo}
 use Rattle.calls.specs.Objects.{namesItself, created, wordSet, flushed}
@@ -175,10 +175,11 @@ module _ (g : List ℕ) (G H : ℕ → ℕ → Type 0) (up : (x f : ℕ) → G x
 
     copies-after : (c : Call) → accepted (perform s c .answer) ≡ true → Copied (perform s c .after)
     unfolding perform created wordSet flushed appended backTo reopened pageStored reopeningOver
-    copies-after (begin t) a = still (begin t) refl a
+    copies-after (begin t c) a = still (begin t c) refl a
     copies-after (commit t) a = still (commit t) refl a
     copies-after (abort t) a = let i = here n some s b v (abort t) refl a in
         through true s _ _ _ n (λ z. OwnOf G (view (z .received)) → Copied z) (abort-outcome s t) a (i .size) (λ h k. aborted-own h i t (abort-facts s n t k)) (received-after (abort t) a)
+    copies-after (grant c p r) a = still (grant c p r) refl a
     copies-after (lockRead t p) a = still (lockRead t p) refl a
     copies-after (lockWrite t p) a = still (lockWrite t p) refl a
     copies-after (read t x buffer) a = still (read t x buffer) refl a

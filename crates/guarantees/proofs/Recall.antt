@@ -22,7 +22,7 @@ use Rattle.areas.specs.Tables.{has, canRead, knows}
 use Rattle.areas.specs.Entry.{called-passed}
 use Rattle.calls.specs.Objects.{readTests, callRead, ifAccepted, bufferAfter}
 use Rattle.calls.specs.Calls.{Call, reopens, perform}
-use Rattle.calls.specs.Calls.Call.{begin, commit, abort, lockRead, lockWrite, read, create, setWord, flush, force, store, empty, pass, step, reopen, restep, mark, back, look}
+use Rattle.calls.specs.Calls.Call.{begin, commit, abort, grant, lockRead, lockWrite, read, create, setWord, flush, force, store, empty, pass, step, reopen, restep, mark, back, look}
 use Rattle.acceptance.specs.Calls.{refused-keeps}
 use Rattle.acceptance.specs.Entered.{opened}
 use Rattle.acceptance.specs.Objects.{ObjectFacts, known-facts, ReadFacts, CreateFacts, read-outcome, read-facts, create-outcome, create-facts}
@@ -54,9 +54,10 @@ use Rattle.guarantees.proofs.Refusals.{formed}
 
 -- t begins, ends or goes back
 abbrev over : ℕ → Call → Bool
-over t (begin u) = eqb u t
+over t (begin u c) = eqb u t
 over t (commit u) = eqb u t
 over t (abort u) = eqb u t
+over t (grant c p r) = false
 over t (lockRead u p) = false
 over t (lockWrite u p) = false
 over t (read u x buffer) = false
@@ -80,9 +81,10 @@ swap u t d = eqb-swap t u ∙ d
 -- any other call leaves the locks of t
 module _ (l : Granted) (t p : ℕ) (h : holds l t p ≡ true) where
   locks-stay : (c : Call) → over t c ≡ false → reopens c ≡ false → holds (granting l c) t p ≡ true
-  locks-stay (begin u) d r = h
+  locks-stay (begin u c) d r = h
   locks-stay (commit u) d r = rw (swap u t d) h
   locks-stay (abort u) d r = rw (swap u t d) h
+  locks-stay (grant c q x) d r = h
   locks-stay (lockRead u q) d r = elim (or-cases (l .reads t p) (l .writes t p) h) [ inl e ↦ rw e refl | inr e ↦ rw e (or-true (granting l (lockRead u q) .reads t p)) ]
   locks-stay (lockWrite u q) d r = elim (or-cases (l .reads t p) (l .writes t p) h) [ inl e ↦ rw e refl | inr e ↦ rw e (or-true (l .reads t p)) ]
   locks-stay (read u x buffer) d r = h
@@ -112,9 +114,10 @@ learns-more b u t x f k = by-bool (eqb t u) (λ e. rw (e, ← (eqb-true t u e)) 
 module _ (n : ℕ) (b : Book) (t x : ℕ) (k : b .known t x ≡ true) (r₀ r₁ : List ℕ) where
   still-known : (c : Call) → over t c ≡ false → reopens c ≡ false → fed n b c r₀ r₁ .known t x ≡ true
   unfolding fed
-  still-known (begin u) d r = rw (swap u t d) k
+  still-known (begin u c) d r = rw (swap u t d) k
   still-known (commit u) d r = rw (swap u t d) k
   still-known (abort u) d r = rw (swap u t d) k
+  still-known (grant c p x) d r = k
   still-known (lockRead u p) d r = k
   still-known (lockWrite u p) d r = k
   still-known (read u y buffer) d r = learns-more b u t x _ k
@@ -266,9 +269,10 @@ module _ (n : ℕ) (some : 1 ≤ n) (s : Areas) (b : Book) (v : Inv3 n s b) (l :
 
     accepted-seen : (c : Call) → accepted (perform s c .answer) ≡ true → recalling l c (s .received) .has t x ≡ true → After c (recalling l c (s .received))
     unfolding perform
-    accepted-seen (begin u) a e = ended u (begin u) refl refl refl a e
+    accepted-seen (begin u c) a e = ended u (begin u c) refl refl refl a e
     accepted-seen (commit u) a e = ended u (commit u) refl refl refl a e
     accepted-seen (abort u) a e = ended u (abort u) refl refl refl a e
+    accepted-seen (grant c p x) a e = quiet-stays (grant c p x) refl refl refl a l (λ f. refl) (old e)
     accepted-seen (lockRead u p) a e = quiet-stays (lockRead u p) refl refl refl a l (λ f. refl) (old e)
     accepted-seen (lockWrite u p) a e = quiet-stays (lockWrite u p) refl refl refl a l (λ f. refl) (old e)
     accepted-seen (read u y buffer) a e = by-bool (these u y t x)

@@ -27,10 +27,11 @@ use Rattle.calls.specs.Objects.{readTests, callRead, createTests, callCreate, s
 use Rattle.calls.specs.Pass.{passTests, callPass, lowestGrey, marked, sweepTests, swept, stepTests, callStep}
 use Rattle.calls.specs.Reopening.{reopenTests, reopened, callReopen, restepTests, callRestep}
 use Rattle.calls.specs.Stability.{forceTests, callForce, storeTests, callStore, emptyTests, callEmpty}
+use Rattle.calls.specs.Rights.{grantTests, callGrant}
 use Rattle.calls.specs.Transactions.{beginTests, callBegin, commitTests, callCommit, changesOf, abortTests, callAbort}
 use Rattle.calls.specs.Looks.{callLook}
 use Rattle.calls.specs.Calls.{Call, perform}
-use Rattle.calls.specs.Calls.Call.{begin, commit, abort, lockRead, lockWrite, read, create, setWord, flush, force, store, empty, pass, step, reopen, restep, mark, back, look}
+use Rattle.calls.specs.Calls.Call.{begin, commit, abort, grant, lockRead, lockWrite, read, create, setWord, flush, force, store, empty, pass, step, reopen, restep, mark, back, look}
 use Rattle.calls.specs.Marks.{isMark, markTests, callMark, sinceMark, backTests, callBack}
 use Rattle.acceptance.specs.Lengths.{Sized}
 use Rattle.acceptance.specs.Pass.{scanning, turning, sweepMapOf, sweeping, stepped}
@@ -151,10 +152,11 @@ module _ (n : ℕ) (s : Areas) (b : Book) (f : Fine n s b) where
   plain tests v a c = mild n s b f true true refl tests _ c (λ m z. omega arith)
 
   well-formed : (c : Call) → ownFits c ≡ true → answerOf (perform s c .answer) ≡ 1 → ⊥
-  unfolding spares perform callBegin callCommit callAbort callLockRead callLockWrite callRead callCreate callSet callFlush callForce callStore callEmpty callPass callStep callRestep callReopen callMark callBack callLook beginTests commitTests abortTests lockReadTests lockWriteTests readTests createTests setTests flushTests forceTests storeTests emptyTests passTests stepTests restepTests reopenTests markTests backTests
-  well-formed (begin t) o = plain (λ m. beginTests s m t) _ _ (λ m. refl)
+  unfolding spares perform callBegin callCommit callAbort callGrant callLockRead callLockWrite callRead callCreate callSet callFlush callForce callStore callEmpty callPass callStep callRestep callReopen callMark callBack callLook beginTests commitTests abortTests grantTests lockReadTests lockWriteTests readTests createTests setTests flushTests forceTests storeTests emptyTests passTests stepTests restepTests reopenTests markTests backTests
+  well-formed (begin t c) o = plain (λ m. beginTests s m t c) _ _ (λ m. refl)
   well-formed (commit t) o = plain (λ m. commitTests s m t) _ _ (λ m. refl)
   well-formed (abort t) o = plain (λ m. abortTests s m t) _ _ (λ m. refl)
+  well-formed (grant c p r) o = plain (λ m. grantTests s m c p r) _ _ (λ m. refl)
   well-formed (lockRead t p) o = plain (λ m. lockReadTests s m t p) _ _ (λ m. refl)
   well-formed (lockWrite t p) o = plain (λ m. lockWriteTests s m t p) _ _ (λ m. refl)
   well-formed (read t x buffer) o = mild n s b f true (eqb (length buffer) slotWords) o (λ m. readTests s m t x) _ (λ m. refl) (λ m z. omega arith)

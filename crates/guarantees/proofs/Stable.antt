@@ -21,7 +21,7 @@ use Rattle.areas.specs.Areas.{Areas, Out, receivedCount, stableCount, withWork,
 use Rattle.areas.specs.Layout.{reopeningPageAt}
 use Rattle.areas.specs.Tables.{at}
 use Rattle.calls.specs.Calls.{Call, perform}
-use Rattle.calls.specs.Calls.Call.{begin, commit, abort, lockRead, lockWrite, read, create, setWord, flush, force, store, empty, pass, step, reopen, restep, mark, back, look}
+use Rattle.calls.specs.Calls.Call.{begin, commit, abort, grant, lockRead, lockWrite, read, create, setWord, flush, force, store, empty, pass, step, reopen, restep, mark, back, look}
 use Rattle.calls.specs.Objects.{created, wordSet, flushed}
 use Rattle.calls.specs.Pass.{sweptPage}
 use Rattle.calls.specs.Reopening.{reopened, pageStored, reopeningOver}
@@ -32,6 +32,7 @@ use Rattle.acceptance.specs.Entered.{Open, opened, entered}
 use Rattle.acceptance.specs.Lengths.{Sized}
 use Rattle.acceptance.specs.Ran.{Outcome}
 use Rattle.acceptance.specs.Transactions.{begin-outcome, commit-outcome, abort-outcome}
+use Rattle.acceptance.specs.Rights.{grant-outcome}
 use Rattle.acceptance.specs.Locks.{lock-read-outcome, lock-write-outcome}
 use Rattle.acceptance.specs.Objects.{read-outcome, create-outcome, set-outcome, flush-outcome}
 use Rattle.acceptance.specs.Stability.{force-outcome, store-outcome, store-facts, empty-outcome}
@@ -71,6 +72,11 @@ record Behind (c : ℕ) (s s′ : Areas) : Type 0 where
   count : c ≤ receivedCount s′
   log : (i : ℕ) → i < recordWords * c → at (s′ .log) i ≡ at (s .log) i
 
+pub rolled-stored : (g is : List ℕ) (s : Areas) → rolledBack g is s .stored ≡ s .stored
+unfolding rolledBack appended
+rolled-stored g [] s = refl
+rolled-stored g (j ∷ js) s = rolled-stored g js (appended s (undoing (recordAt g j)))
+
 rolled-behind : (g : List ℕ) (is : List ℕ) (c : ℕ) (s : Areas) → length (s .counts) ≡ 2 → c ≤ receivedCount s → Behind c s (rolledBack g is s)
 unfolding rolledBack appended
 rolled-behind g [] c s l h = record { stored = refl; count = h; log = λ i k. refl }
@@ -78,7 +84,7 @@ rolled-behind g (j ∷ js) c s l h =
     let r = undoing (recordAt g j) in
     let e : receivedCount (appended s r) ≡ receivedCount s + 1 = getD-set-same (s .counts) 0 (receivedCount s + 1) 0 (omega arith) in
     let b = rolled-behind g js c (appended s r) (length-set (s .counts) 0 (receivedCount s + 1) ∙ l) (omega arith) in
-    record { stored = b .stored; count = b .count; log = λ i k. b .log i k ∙ appended-before s r i c h k }
+    record { stored = rolled-stored g (j ∷ js) s; count = b .count; log = λ i k. b .log i k ∙ appended-before s r i c h k }
 
 -- a call that appends a record
 one-behind : (n : ℕ) (s s′ : Areas) (r : Record) → Open s n → s′ .stored ≡ s .stored → s′ .log ≡ appended s r .log → AtMostOne s s′
@@ -143,9 +149,10 @@ restep-stable n s z = by-bool (ltb (at (s .work) reopeningPageAt) n)
 
 accepted-stable : (s : Areas) (c : Call) → accepted (perform s c .answer) ≡ true → AtMostOne s (perform s c .after)
 unfolding perform begun created wordSet flushed committed appended reopened markSet
-accepted-stable s (begin t) a = went true s _ _ _ (begin-outcome s t) a (λ n o. one-behind n s _ _ o refl refl)
+accepted-stable s (begin t c) a = went true s _ _ _ (begin-outcome s t c) a (λ n o. one-behind n s _ _ o refl refl)
 accepted-stable s (commit t) a = went true s _ _ _ (commit-outcome s t) a (λ n o. one-behind n s _ _ o refl refl)
 accepted-stable s (abort t) a = went true s _ _ _ (abort-outcome s t) a (λ n o. abort-behind n s t o)
+accepted-stable s (grant c p r) a = went true s _ _ _ (grant-outcome s c p r) a (λ n o. same-stable s _ refl refl)
 accepted-stable s (lockRead t p) a = went true s _ _ _ (lock-read-outcome s t p) a (λ n o. same-stable s _ refl refl)
 accepted-stable s (lockWrite t p) a = went true s _ _ _ (lock-write-outcome s t p) a (λ n o. same-stable s _ refl refl)
 accepted-stable s (read t x buffer) a = went (eqb (length buffer) slotWords) s _ _ _ (read-outcome s t x buffer) a (λ n o. same-stable s _ refl refl)

@@ -18,7 +18,7 @@ use Rattle.pages.specs.Geometry.{isRef, pageOf, root, objectCount, slotWords}
 use Rattle.pages.specs.Objects.{wordOf, occupied}
 use Rattle.pages.specs.Soundness.{areaSound}
 use Rattle.page_laws.specs.SoundFacts.{ref-in-range}
-use Rattle.areas.specs.Layout.{phaseAt, passPageAt, stepsAt, activeAt, readersAt, writersAt, unflushedAt, knownAt, prunedAt, createdAt, colourAt, markedAt, orderAt, undoingAt, Row, tableWords, workWords, stepsTop, prunedFrom, writersFrom, knownFrom, unflushedFrom, coloursFrom, createdFrom, markedFrom, orderFrom, undoingFrom, markCount, flaggedTop, changesTop, orderTop, undoingTop}
+use Rattle.areas.specs.Layout.{phaseAt, passPageAt, stepsAt, activeAt, readersAt, writersAt, unflushedAt, knownAt, prunedAt, createdAt, colourAt, markedAt, orderAt, undoingAt, Row, tableWords, workWords, stepsTop, prunedFrom, writersFrom, knownFrom, unflushedFrom, coloursFrom, createdFrom, markedFrom, orderFrom, clientsFrom, rightsFrom, undoingFrom, markCount, clientCount, clientAt, rightAt, flaggedTop, changesTop, orderTop, clientTop, writing, undoingTop}
 use Rattle.areas.specs.Ranges.{rowsInRange, workInRange}
 use Rattle.areas.specs.Tables.{at, gain, lose, flag, greyed, withPass, stepsNext, canWrite, isWhite, isMarking, passRuns, passFirst, passEnd, mayMark}
 use Rattle.acceptance.specs.Working.{Working}
@@ -26,7 +26,8 @@ use Rattle.calls.specs.Locks.{readLocked, writeLocked}
 use Rattle.calls.specs.Marks.{orderOf, isSet, othersSet, movedUp, setLast, takenBack, dropped}
 use Rattle.calls.specs.Objects.{learned, pruned, prunes}
 use Rattle.calls.specs.Pass.{unflagged, firstColour, passStarted, targetsGreyed, scanned, advanced}
-use Rattle.calls.specs.Transactions.{leaves, knowsRoot, endedEntry, endedEntries, withoutMarks, endedTables}
+use Rattle.calls.specs.Rights.{rightGiven}
+use Rattle.calls.specs.Transactions.{leaves, begunTables, endedEntry, endedEntries, withoutMarks, endedTables}
 use Rattle.records.specs.declared.Record.{Record}
 use Rattle.records.specs.Records.{txnCount, maskTop, isCreate}
 
@@ -41,7 +42,9 @@ pub data Fits (n l i v : ℕ) : Type 0 where
   flagged : prunedFrom n ≤ i → i < coloursFrom n → v < 2 ^ (txnCount + 1) → Fits n l i v
   colour : coloursFrom n ≤ i → i < tableWords n → v ≤ 2 → Fits n l i v
   marked : tableWords n ≤ i → i < orderFrom n → v ≤ changesTop l → Fits n l i v
-  order : orderFrom n ≤ i → i < undoingFrom n → v ≤ orderTop l → Fits n l i v
+  order : orderFrom n ≤ i → i < clientsFrom n → v ≤ orderTop l → Fits n l i v
+  client : clientsFrom n ≤ i → i < rightsFrom n → v ≤ clientTop l → Fits n l i v
+  right : rightsFrom n ≤ i → i < undoingFrom n → v ≤ writing → Fits n l i v
   undoing : undoingFrom n ≤ i → v ≤ undoingTop l → Fits n l i v
 
 pub record Within (w : List ℕ) (n l : ℕ) : Type 0 where
@@ -61,6 +64,8 @@ module _ (n l i v : ℕ) where
   fits-low (colour p q h) a = absurd (omega arith)
   fits-low (marked p q h) a = absurd (omega arith)
   fits-low (order p q h) a = absurd (omega arith)
+  fits-low (client p q h) a = absurd (omega arith)
+  fits-low (right p q h) a = absurd (omega arith)
   fits-low (undoing p h) a = absurd (omega arith)
 
   fits-masks : Fits n l i v → activeAt ≤ i → i < coloursFrom n → ((i < prunedFrom n → v ≤ maskTop) × (prunedFrom n ≤ i → v ≤ flaggedTop))
@@ -74,10 +79,13 @@ module _ (n l i v : ℕ) where
   fits-masks (colour p q h) a b = absurd (omega arith)
   fits-masks (marked p q h) a b = absurd (omega arith)
   fits-masks (order p q h) a b = absurd (omega arith)
+  fits-masks (client p q h) a b = absurd (omega arith)
+  fits-masks (right p q h) a b = absurd (omega arith)
   fits-masks (undoing p h) a b = absurd (omega arith)
 
   fits-late : Fits n l i v → coloursFrom n ≤ i
-      → ((i < tableWords n → v ≤ 2) × (tableWords n ≤ i → i < orderFrom n → v ≤ changesTop l) × (orderFrom n ≤ i → i < undoingFrom n → v ≤ orderTop l) × (undoingFrom n ≤ i → v ≤ undoingTop l))
+      → ((i < tableWords n → v ≤ 2) × (tableWords n ≤ i → i < orderFrom n → v ≤ changesTop l) × (orderFrom n ≤ i → i < clientsFrom n → v ≤ orderTop l)
+      × (clientsFrom n ≤ i → i < rightsFrom n → v ≤ clientTop l) × (rightsFrom n ≤ i → i < undoingFrom n → v ≤ writing) × (undoingFrom n ≤ i → v ≤ undoingTop l))
   fits-late (word e h) a = absurd (omega arith)
   fits-late (reopening-page e h) a = absurd (omega arith)
   fits-late (phase e h) a = absurd (omega arith)
@@ -85,10 +93,12 @@ module _ (n l i v : ℕ) where
   fits-late (steps e h) a = absurd (omega arith)
   fits-late (mask p q h) a = absurd (omega arith)
   fits-late (flagged p q h) a = absurd (omega arith)
-  fits-late (colour p q h) a = (λ z. h, λ y z. absurd (omega arith), λ y z. absurd (omega arith), λ z. absurd (omega arith))
-  fits-late (marked p q h) a = (λ z. absurd (omega arith), λ y z. h, λ y z. absurd (omega arith), λ z. absurd (omega arith))
-  fits-late (order p q h) a = (λ z. absurd (omega arith), λ y z. absurd (omega arith), λ y z. h, λ z. absurd (omega arith))
-  fits-late (undoing p h) a = (λ z. absurd (omega arith), λ y z. absurd (omega arith), λ y z. absurd (omega arith), λ z. h)
+  fits-late (colour p q h) a = (λ z. h, λ y z. absurd (omega arith), λ y z. absurd (omega arith), λ y z. absurd (omega arith), λ y z. absurd (omega arith), λ z. absurd (omega arith))
+  fits-late (marked p q h) a = (λ z. absurd (omega arith), λ y z. h, λ y z. absurd (omega arith), λ y z. absurd (omega arith), λ y z. absurd (omega arith), λ z. absurd (omega arith))
+  fits-late (order p q h) a = (λ z. absurd (omega arith), λ y z. absurd (omega arith), λ y z. h, λ y z. absurd (omega arith), λ y z. absurd (omega arith), λ z. absurd (omega arith))
+  fits-late (client p q h) a = (λ z. absurd (omega arith), λ y z. absurd (omega arith), λ y z. absurd (omega arith), λ y z. h, λ y z. absurd (omega arith), λ z. absurd (omega arith))
+  fits-late (right p q h) a = (λ z. absurd (omega arith), λ y z. absurd (omega arith), λ y z. absurd (omega arith), λ y z. absurd (omega arith), λ y z. h, λ z. absurd (omega arith))
+  fits-late (undoing p h) a = (λ z. absurd (omega arith), λ y z. absurd (omega arith), λ y z. absurd (omega arith), λ y z. absurd (omega arith), λ y z. absurd (omega arith), λ z. h)
 
 -- in range by rows
 up-to : (w : List ℕ) (a k top : ℕ) → ((i : ℕ) → a ≤ i → i < a + k → at w i ≤ top) → upTo w a k top ≡ true
@@ -121,8 +131,10 @@ within-rows w n l some h =
     (more-rows w _ _ (λ i a b. fits-late n l i (at w i) (h .fits i (omega arith)) (omega arith) .0 (omega arith))
     (more-rows w _ _ (λ i a b. fits-late n l i (at w i) (h .fits i (omega arith)) (omega arith) .1 (omega arith) (omega arith))
     (more-rows w _ _ (λ i a b. fits-late n l i (at w i) (h .fits i (omega arith)) (omega arith) .2 (omega arith) (omega arith))
-    (more-rows w _ _ (λ i a b. fits-late n l i (at w i) (h .fits i (omega arith)) (omega arith) .3 (omega arith))
-    (no-rows w))))))))))))))))
+    (more-rows w _ _ (λ i a b. fits-late n l i (at w i) (h .fits i (omega arith)) (omega arith) .3 (omega arith) (omega arith))
+    (more-rows w _ _ (λ i a b. fits-late n l i (at w i) (h .fits i (omega arith)) (omega arith) .4 (omega arith) (omega arith))
+    (more-rows w _ _ (λ i a b. fits-late n l i (at w i) (h .fits i (omega arith)) (omega arith) .5 (omega arith))
+    (no-rows w))))))))))))))))))
 
 -- and back
 choose : {A : Type 0} (i k : ℕ) → (i < k → A) → (k ≤ i → A) → A
@@ -147,9 +159,12 @@ fits-of w n l k i h = choose i 1 (λ a. word (omega arith) (at-place w 2 i 0 (om
     (λ b. choose i (tableWords n) (λ a. colour b a (at-place w 2 i (colourAt n (i - (coloursFrom n) + 1)) (omega arith) (k .colours (i - (coloursFrom n) + 1) (omega arith) (omega arith))))
     (λ b. choose i (orderFrom n) (λ a. marked b a (at-place w (changesTop l) i (markedAt n ((i - markedFrom n) / markCount) ((i - markedFrom n) % markCount)) (omega arith)
     (k .marked ((i - markedFrom n) / markCount) ((i - markedFrom n) % markCount) (omega arith) (omega arith))))
-    (λ b. choose i (undoingFrom n) (λ a. order b a (at-place w (orderTop l) i (orderAt n ((i - orderFrom n) / markCount) ((i - orderFrom n) % markCount)) (omega arith)
+    (λ b. choose i (clientsFrom n) (λ a. order b a (at-place w (orderTop l) i (orderAt n ((i - orderFrom n) / markCount) ((i - orderFrom n) % markCount)) (omega arith)
     (k .order ((i - orderFrom n) / markCount) ((i - orderFrom n) % markCount) (omega arith) (omega arith))))
-    (λ b. undoing b (at-place w (undoingTop l) i (undoingAt n (i - undoingFrom n)) (omega arith) (k .undoing (i - undoingFrom n) (omega arith))))))))))))))))))
+    (λ b. choose i (rightsFrom n) (λ a. client b a (at-place w (clientTop l) i (clientAt n (i - clientsFrom n)) (omega arith) (k .clients (i - clientsFrom n) (omega arith))))
+    (λ b. choose i (undoingFrom n) (λ a. right b a (at-place w writing i (rightAt n ((i - rightsFrom n) % clientCount) ((i - rightsFrom n) / clientCount)) (omega arith)
+    (k .rights ((i - rightsFrom n) % clientCount) ((i - rightsFrom n) / clientCount) (omega arith) (omega arith))))
+    (λ b. undoing b (at-place w (undoingTop l) i (undoingAt n (i - undoingFrom n)) (omega arith) (k .undoing (i - undoingFrom n) (omega arith))))))))))))))))))))
   where
     masked : {A : Type 0} (top i j : ℕ) → i ≡ j → at w j < top → (at w i < top → A) → A
     masked top i j e h f = f (rw e h)
@@ -189,7 +204,8 @@ lose-within w n l i t h a b = set-within w n l i (withoutBit (at w i) t) h (with
 
 -- behind the tables 0 fits every word
 zero-fits : (n l i : ℕ) → tableWords n ≤ i → Fits n l i 0
-zero-fits n l i a = choose i (orderFrom n) (λ b. marked a b (omega arith)) (λ b. choose i (undoingFrom n) (λ c. order b c (omega arith)) (λ c. undoing c (omega arith)))
+zero-fits n l i a = choose i (orderFrom n) (λ b. marked a b (omega arith)) (λ b. choose i (clientsFrom n) (λ c. order b c (omega arith))
+    (λ c. choose i (rightsFrom n) (λ d. client c d (omega arith)) (λ d. choose i (undoingFrom n) (λ e. right d e (omega arith)) (λ e. undoing e (omega arith)))))
 
 pub zero-within : (w : List ℕ) (n l i : ℕ) → Within w n l → tableWords n ≤ i → Within (set w i 0) n l
 zero-within w n l i h a = set-within w n l i 0 h (zero-fits n l i a)
@@ -228,9 +244,11 @@ entries-within t w n l a k h p q = over-within (endedEntry (passRuns w) t) w n l
 
 -- the calls' tables
 module _ (w : List ℕ) (n l : ℕ) (some : 1 ≤ n) (h : Within w n l) where
-  pub begun-within : (t : ℕ) → t < txnCount → Within (knowsRoot (gain w activeAt t) n t) n l
-  begun-within t small = gain-within _ n l (knownAt n root) t
-      (leaves-within t (gain w activeAt t) n l (knownAt n 1) (objectCount n) (gain-within w n l activeAt t h (omega arith) (omega arith) small) (omega arith) (omega arith)) (omega arith) (omega arith) small
+  pub begun-within : (t c : ℕ) → t < txnCount → c < clientCount → 1 < l → Within (begunTables w n t c) n l
+  unfolding begunTables
+  begun-within t c small client-small room = set-within _ n l (clientAt n t) c (gain-within _ n l (knownAt n root) t
+      (leaves-within t (gain w activeAt t) n l (knownAt n 1) (objectCount n) (gain-within w n l activeAt t h (omega arith) (omega arith) small) (omega arith) (omega arith)) (omega arith) (omega arith) small)
+      (client (omega arith) (omega arith) (rw (lt-ltb 1 l room) (omega arith)))
 
   pub ended-within : (t : ℕ) → Within (endedTables w n t) n l
   unfolding endedTables withoutMarks
@@ -242,7 +260,7 @@ module _ (w : List ℕ) (n l : ℕ) (some : 1 ≤ n) (h : Within w n l) where
       let h5 = leaves-within t _ n l (knownAt n 1) (objectCount n) h4 (omega arith) (omega arith) in
       let h6 = entries-within t _ n l (prunedAt n 1) (objectCount n) h5 (omega arith) (omega arith) in
       let h7 = entries-within t _ n l (createdAt n 1) (objectCount n) h6 (omega arith) (omega arith) in
-      zeros-within _ n l (orderAt n t 0) markCount (zeros-within _ n l (markedAt n t 0) markCount h7 (omega arith)) (omega arith)
+      zero-within _ n l (clientAt n t) (zeros-within _ n l (orderAt n t 0) markCount (zeros-within _ n l (markedAt n t 0) markCount h7 (omega arith)) (omega arith)) (omega arith)
 
   pub read-locked-within : (t p : ℕ) → t < txnCount → p < n → Within (readLocked w n t p) n l
   unfolding readLocked
@@ -345,6 +363,11 @@ set-tables-within received w n l t o f v some h sound small p q k =
     let low = eqb-false x 0 (not-true (eqb x 0) (c .1)) in
     rw e (pruned-within _ n l some g t x small (omega arith) top))
     (λ e. rw e g)
+
+-- a right's
+pub granted-within : (w : List ℕ) (n l c p r : ℕ) → Within w n l → c < clientCount → p < n → r ≤ writing → Within (rightGiven w n c p r) n l
+unfolding rightGiven
+granted-within w n l c p r h small below top = set-within w n l (rightAt n c p) r h (right (omega arith) (omega arith) top)
 
 -- an empty log's tables
 pub emptied-within : (w : List ℕ) (n l : ℕ) → Within w n l → (k : ℕ) → Within (fill (λ i. 0) w (undoingAt n 0) k) n l

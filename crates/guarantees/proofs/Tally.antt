@@ -17,7 +17,7 @@ use Rattle.areas.specs.Layout.{reopeningAt, reopeningPageAt, finished, phaseAt,
 use Rattle.areas.specs.Tables.{at}
 use Rattle.areas.specs.Entry.{pages, records}
 use Rattle.calls.specs.Calls.{Call, perform}
-use Rattle.calls.specs.Calls.Call.{begin, commit, abort, lockRead, lockWrite, read, create, setWord, flush, force, store, empty, pass, step, reopen, restep, mark, back, look}
+use Rattle.calls.specs.Calls.Call.{begin, commit, abort, grant, lockRead, lockWrite, read, create, setWord, flush, force, store, empty, pass, step, reopen, restep, mark, back, look}
 use Rattle.calls.specs.Formatting.{formatted, cut}
 use Rattle.calls.specs.Objects.{created, wordSet, flushed}
 use Rattle.calls.specs.Pass.{callStep}
@@ -28,7 +28,8 @@ use Rattle.calls.specs.Stability.{emptied}
 use Rattle.calls.specs.Marks.{markSet, backTo}
 use Rattle.acceptance.specs.Calls.{refused-keeps}
 use Rattle.acceptance.specs.Entered.{Open, opened}
-use Rattle.acceptance.specs.Transactions.{begin-outcome, commit-outcome, abort-outcome}
+use Rattle.acceptance.specs.Transactions.{begin-outcome, begin-facts, commit-outcome, abort-outcome}
+use Rattle.acceptance.specs.Rights.{grant-outcome}
 use Rattle.acceptance.specs.Locks.{lock-read-outcome, lock-read-facts, lock-write-outcome, lock-write-facts}
 use Rattle.acceptance.specs.Objects.{read-outcome, read-facts, create-outcome, create-facts, set-outcome, set-facts, flush-outcome, flush-facts}
 use Rattle.acceptance.specs.Stability.{force-outcome, store-outcome, empty-outcome}
@@ -53,6 +54,7 @@ use Rattle.machine_calls.proofs.Learned.{read-pass}
 use Rattle.machine_calls.proofs.Locking.{lock-read-pass, lock-write-pass}
 use Rattle.machine_calls.proofs.TakenBack.{dropped-beside}
 use Rattle.machine_calls.proofs.Written.{set-pass}
+use Rattle.demand.proofs.Rights.{grant-beside}
 use Rattle.demand.proofs.State.{machine, OpenInv, Inv3}
 use Rattle.demand.proofs.Holds.{sweeping-phase}
 use Rattle.demand.proofs.HoldsWaiting.{step-entered, storing-opened}
@@ -132,9 +134,11 @@ module _ (n : ℕ) (some : 1 ≤ n) (s : Areas) (b : Book) (v : Inv3 n s b) (l :
 
   pub accepted-counts : (c : Call) → accepted (perform s c .answer) ≡ true → Counts n (perform s c .after .work) (tallied l (partOf c))
   unfolding perform begun committed aborted created wordSet flushed markSet backTo
-  accepted-counts (begin t) a = through true s _ _ _ n (Leaves l) (begin-outcome s t) a (here n some s b v (begin t) refl a .size) (λ h k. as-was _ (begin-pass w n t some))
+  accepted-counts (begin t c) a = through true s _ _ _ n (Leaves l) (begin-outcome s t c) a (here n some s b v (begin t c) refl a .size) (λ h k. as-was _ (begin-pass w n t some c (begin-facts s n t c k .txn)))
   accepted-counts (commit t) a = through true s _ _ _ n (Leaves l) (commit-outcome s t) a (here n some s b v (commit t) refl a .size) (λ h k. as-was _ (ended-pass w n t))
   accepted-counts (abort t) a = through true s _ _ _ n (Leaves l) (abort-outcome s t) a (here n some s b v (abort t) refl a .size) (λ h k. as-was _ (ended-pass w n t))
+  accepted-counts (grant c p r) a = through true s _ _ _ n (Leaves l) (grant-outcome s c p r) a (here n some s b v (grant c p r) refl a .size)
+      (λ h k. as-was _ (pass-kept (grant-beside w n c p r) n (inr (omega arith)) (inr (omega arith))))
   accepted-counts (lockRead t p) a = through true s _ _ _ n (Leaves l) (lock-read-outcome s t p) a (here n some s b v (lockRead t p) refl a .size)
       (λ h k. as-was _ (lock-read-pass w n t p (lock-read-facts s n t p k .page)))
   accepted-counts (lockWrite t p) a = through true s _ _ _ n (Leaves l) (lock-write-outcome s t p) a (here n some s b v (lockWrite t p) refl a .size)

@@ -1,5 +1,5 @@
--- What an accepted call leaves of an object, in the received pages and in the copies; and what another's leaves of one on a page that t
--- holds. n is the number of pages. Assumes nothing.
+-- What an accepted call leaves of an object, in the received pages and in the copies; of one on a page that its transaction does not write;
+-- and what another's leaves of one on a page that t holds. n is the number of pages. Assumes nothing.
 use Prim.Native.Nat.{ℕ, _*_, _≤_, _<_}
 use native.Mathlib.Omega.{arith}
 use mathlib.Core.Path.{_≡_, refl, sym, ap, _∙_}
@@ -8,7 +8,7 @@ use mathlib.Core.List.{List}
 use mathlib.Core.Logic.{inl, inr}
 use lib.ListN.{length}
 use lib.Dec.{eqb}
-use borrow.Author.Tests.{eqb-false, ne-eqb}
+use borrow.Author.Tests.{eq-eqb, eqb-false, ne-eqb}
 use Rattle.words.specs.Tests.{if, by-bool, clash, or-cases}
 use Rattle.pages.specs.Geometry.{pageOf, pageWords, slotWords}
 use Rattle.pages.specs.Objects.{released}
@@ -19,7 +19,7 @@ use Rattle.areas.specs.Areas.{Areas, Out, appended}
 use Rattle.areas.specs.Layout.{phaseAt, passPageAt, writersAt}
 use Rattle.areas.specs.Tables.{at, canWrite}
 use Rattle.calls.specs.Calls.{Call, reopens, perform}
-use Rattle.calls.specs.Calls.Call.{begin, commit, abort, lockRead, lockWrite, read, create, setWord, flush, force, store, empty, pass, step, reopen, restep, mark, back, look}
+use Rattle.calls.specs.Calls.Call.{begin, commit, abort, grant, lockRead, lockWrite, read, create, setWord, flush, force, store, empty, pass, step, reopen, restep, mark, back, look}
 use Rattle.calls.specs.Marks.{markSet, sinceMark, wentBack, backTo}
 use Rattle.calls.specs.Objects.{created, wordSet, flushed}
 use Rattle.calls.specs.Pass.{callStep, freedMap, locked, sweptPage}
@@ -27,6 +27,7 @@ use Rattle.calls.specs.Transactions.{begun, committed, changesOf, aborted}
 use Rattle.acceptance.specs.Entered.{Open, opened}
 use Rattle.acceptance.specs.Looks.{look-keeps}
 use Rattle.acceptance.specs.Transactions.{begin-outcome, commit-outcome, abort-outcome, abort-facts, AbortFacts}
+use Rattle.acceptance.specs.Rights.{grant-outcome}
 use Rattle.acceptance.specs.Locks.{lock-read-outcome, lock-write-outcome}
 use Rattle.acceptance.specs.Objects.{read-outcome, create-outcome, create-facts, set-outcome, set-facts, flush-outcome, flush-facts}
 use Rattle.acceptance.specs.Stability.{force-outcome, store-outcome, empty-outcome}
@@ -65,9 +66,10 @@ use Rattle.guarantees.proofs.Granted.{Agrees}
 
 -- calls that leave received pages and copies as they are
 abbrev pub quiet : Call → Bool
-quiet (begin t) = true
+quiet (begin t c) = true
 quiet (commit t) = true
 quiet (abort t) = false
+quiet (grant c p r) = true
 quiet (lockRead t p) = true
 quiet (lockWrite t p) = true
 quiet (read t x buffer) = true
@@ -95,9 +97,10 @@ module _ (n : ℕ) (some : 1 ≤ n) (s : Areas) (b : Book) (v : Inv3 n s b) wher
 
   pub quiet-areas : (c : Call) → quiet c ≡ true → accepted (perform s c .answer) ≡ true → Same (perform s c .after)
   unfolding perform begun committed markSet appended effect
-  quiet-areas (begin t) e a = through true s _ _ _ n Same (begin-outcome s t) a (size (begin t) refl a) (λ h k. (refl, refl))
+  quiet-areas (begin t c) e a = through true s _ _ _ n Same (begin-outcome s t c) a (size (begin t c) refl a) (λ h k. (refl, refl))
   quiet-areas (commit t) e a = through true s _ _ _ n Same (commit-outcome s t) a (size (commit t) refl a) (λ h k. (refl, refl))
   quiet-areas (abort t) e a = clash e refl
+  quiet-areas (grant c p r) e a = through true s _ _ _ n Same (grant-outcome s c p r) a (size (grant c p r) refl a) (λ h k. (refl, refl))
   quiet-areas (lockRead t p) e a = through true s _ _ _ n Same (lock-read-outcome s t p) a (size (lockRead t p) refl a) (λ h k. (refl, refl))
   quiet-areas (lockWrite t p) e a = through true s _ _ _ n Same (lock-write-outcome s t p) a (size (lockWrite t p) refl a) (λ h k. (refl, refl))
   quiet-areas (read t x buffer) e a = through (eqb (length buffer) slotWords) s _ _ _ n Same (read-outcome s t x buffer) a (size (read t x buffer) refl a) (λ h k. (refl, refl))
@@ -192,12 +195,64 @@ unfolding perform
 back-leaves n some s b v u m a x off = let i = here n some s b v (back u m) refl a in
     through true s _ _ _ n (λ z. Stays s z x) (back-outcome s u m) a (i .size) (λ h c. back-stays n some s b i h u x off m (back-facts s n u m c))
 
--- another's call, and an object on a page that t holds
-module _ (n : ℕ) (some : 1 ≤ n) (s : Areas) (b : Book) (v : Inv3 n s b) (l : Granted) (g : Agrees n (s .work) l) (t x : ℕ) (lock : holds l t (pageOf x) ≡ true) where
+-- an accepted call that is no reopening, and an object on a page that its transaction does not write; k: of a pass step it is asked that
+-- some t knows the object
+module _ (n : ℕ) (some : 1 ≤ n) (s : Areas) (b : Book) (v : Inv3 n s b) (x : ℕ) where
   abbrev After : Areas → Type 0
   After a = Stays s a x
 
-  -- nobody else writes the page
+  abbrev Off : ℕ → Type 0
+  Off u = locksOf (s .work) n .wr u (pageOf x) ≡ false
+
+  -- a page that u writes is not this one
+  elsewhere : (u p : ℕ) → Off u → u < txnCount → p < n → canWrite (s .work) n u p ≡ true → eqb (pageOf x) p ≡ false
+  elsewhere u p off small below w = ne-eqb (pageOf x) p (λ e. clash (page-bit (s .work) n (writersAt n) u p small below ∙ w) (rw e at off))
+
+  other-object : (u y : ℕ) → Off u → u < txnCount → pageOf y < n → canWrite (s .work) n u (pageOf y) ≡ true → eqb x y ≡ false
+  other-object u y off small below w = ne-eqb x y (λ e. eqb-false (pageOf x) (pageOf y) (elsewhere u (pageOf y) off small below w) (ap pageOf e))
+
+  both : (c : Call) → quiet c ≡ true → accepted (perform s c .answer) ≡ true → Stays s (perform s c .after) x
+  both c e a = let k = quiet-areas n some s b v c e a in (ap (λ (z : List ℕ). view z x) (k .0), ap (λ (z : List ℕ). view z x) (k .1))
+
+  pub unwritten-stays : (c : Call) → ((u : ℕ) → own u c ≡ true → Off u) → reopens c ≡ false → (c ≡ step → (t : ℕ) × (tablesOf (s .work) n .kn t x ≡ true))
+      → accepted (perform s c .answer) ≡ true → Stays s (perform s c .after) x
+  unfolding perform created wordSet flushed appended effect O.pageOf
+  unwritten-stays (begin u c) d r k a = both (begin u c) refl a
+  unwritten-stays (commit u) d r k a = both (commit u) refl a
+  unwritten-stays (abort u) d r k a = let i = here n some s b v (abort u) refl a in through true s _ _ _ n After (abort-outcome s u) a (i .size)
+      (λ h c. abort-stays n some s b i h u x (d u (eq-eqb u u refl)) (abort-facts s n u c))
+  unwritten-stays (grant c p y) d r k a = both (grant c p y) refl a
+  unwritten-stays (lockRead u p) d r k a = both (lockRead u p) refl a
+  unwritten-stays (lockWrite u p) d r k a = both (lockWrite u p) refl a
+  unwritten-stays (read u y buffer) d r k a = both (read u y buffer) refl a
+  unwritten-stays (create u y) d r k a = through true s _ _ _ n After (create-outcome s u y) a (here n some s b v (create u y) refl a .size)
+      (λ h c. let f = create-facts s n u y c in
+      (occupy-view n (s .received) (h .sized .received-len) y (f .object .low) (f .object .top) x ∙ rw (other-object u y (d u (eq-eqb u u refl)) (f .txn) (f .object .page) (f .lock)), refl))
+  unwritten-stays (setWord u y f w) d r k a = through true s _ _ _ n After (set-outcome s u y f w) a (here n some s b v (setWord u y f w) refl a .size)
+      (λ h c. let q = set-facts s n u y f w c in
+      (written-view n (s .received) (h .sized .received-len) y (q .object .low) (q .object .top) f w (q .field) x ∙ rw (other-object u y (d u (eq-eqb u u refl)) (q .txn) (q .object .page) (q .lock)), refl))
+  unwritten-stays (flush u p image) d r k a = through (eqb (length image) pageWords) s _ _ _ n After (flush-outcome s u p image) a (here n some s b v (flush u p image) refl a .size)
+      (λ h c. let f = flush-facts s n u p image c in
+      (refl, copied-view n (s .received) (s .copies) p (h .sized .received-len) (h .sized .copies-len) (f .page) x ∙ rw (elsewhere u p (d u (eq-eqb u u refl)) (f .txn) (f .page) (f .lock)) refl))
+  unwritten-stays force d r k a = both force refl a
+  unwritten-stays (store p) d r k a = both (store p) refl a
+  unwritten-stays empty d r k a = both empty refl a
+  unwritten-stays pass d r k a = both pass refl a
+  unwritten-stays step d r k a =
+      let i = here n some s b v step refl a in
+      let o = step-outcome s .ran a in
+      let h′ = opened true s (o .n) (o .ready) in
+      let e : o .n ≡ n = sym (h′ .sized .count) ∙ i .size in
+      let z : callStep s ≡ stepped s n = o .gives ∙ ap (stepped s) e in
+      step-stays n s b i (rw e at h′) (k refl .0) x (k refl .1) (step-facts s (o .passed) .one-runs) (callStep s) (step-way s n (callStep s) a z)
+  unwritten-stays reopen d r k a = clash refl r
+  unwritten-stays restep d r k a = clash refl r
+  unwritten-stays (mark u m) d r k a = both (mark u m) refl a
+  unwritten-stays (back u m) d r k a = back-leaves n some s b v u m a x (d u (eq-eqb u u refl))
+  unwritten-stays (look q) d r k a = both (look q) refl a
+
+-- another's call, and an object on a page that t holds: nobody else writes it
+module _ (n : ℕ) (some : 1 ≤ n) (s : Areas) (b : Book) (v : Inv3 n s b) (l : Granted) (g : Agrees n (s .work) l) (t x : ℕ) (lock : holds l t (pageOf x) ≡ true) where
   unwritten : OpenInv n s b → (u : ℕ) → eqb u t ≡ false → locksOf (s .work) n .wr u (pageOf x) ≡ false
   unwritten i u d = by-bool (locksOf (s .work) n .wr u (pageOf x))
       (λ e. elim (or-cases (locksOf (s .work) n .rd t (pageOf x)) (locksOf (s .work) n .wr t (pageOf x)) (sym (g .holders t (pageOf x)) ∙ lock)) [
@@ -206,47 +261,6 @@ module _ (n : ℕ) (some : 1 ≤ n) (s : Areas) (b : Book) (v : Inv3 n s b) (l :
       ])
       (λ e. e)
 
-  -- so a page that another may write is not this one
-  elsewhere : OpenInv n s b → (u p : ℕ) → eqb u t ≡ false → u < txnCount → p < n → canWrite (s .work) n u p ≡ true → eqb (pageOf x) p ≡ false
-  elsewhere i u p d small below w = ne-eqb (pageOf x) p (λ e. clash (page-bit (s .work) n (writersAt n) u p small below ∙ w) (rw e at (unwritten i u d)))
-
-  other-object : OpenInv n s b → (u y : ℕ) → eqb u t ≡ false → u < txnCount → pageOf y < n → canWrite (s .work) n u (pageOf y) ≡ true → eqb x y ≡ false
-  other-object i u y d small below w = ne-eqb x y (λ e. eqb-false (pageOf x) (pageOf y) (elsewhere i u (pageOf y) d small below w) (ap pageOf e))
-
-  both : (c : Call) → quiet c ≡ true → accepted (perform s c .answer) ≡ true → Stays s (perform s c .after) x
-  both c e a = let k = quiet-areas n some s b v c e a in (ap (λ (z : List ℕ). view z x) (k .0), ap (λ (z : List ℕ). view z x) (k .1))
-
   pub foreign-stays : (c : Call) → own t c ≡ false → reopens c ≡ false → (c ≡ step → tablesOf (s .work) n .kn t x ≡ true) → accepted (perform s c .answer) ≡ true → Stays s (perform s c .after) x
-  unfolding perform created wordSet flushed appended effect O.pageOf
-  foreign-stays (begin u) d r k a = both (begin u) refl a
-  foreign-stays (commit u) d r k a = both (commit u) refl a
-  foreign-stays (abort u) d r k a = let i = here n some s b v (abort u) refl a in through true s _ _ _ n After (abort-outcome s u) a (i .size)
-      (λ h c. abort-stays n some s b i h u x (unwritten i u d) (abort-facts s n u c))
-  foreign-stays (lockRead u p) d r k a = both (lockRead u p) refl a
-  foreign-stays (lockWrite u p) d r k a = both (lockWrite u p) refl a
-  foreign-stays (read u y buffer) d r k a = both (read u y buffer) refl a
-  foreign-stays (create u y) d r k a = let i = here n some s b v (create u y) refl a in through true s _ _ _ n After (create-outcome s u y) a (i .size)
-      (λ h c. let f = create-facts s n u y c in
-      (occupy-view n (s .received) (h .sized .received-len) y (f .object .low) (f .object .top) x ∙ rw (other-object i u y d (f .txn) (f .object .page) (f .lock)), refl))
-  foreign-stays (setWord u y f w) d r k a = let i = here n some s b v (setWord u y f w) refl a in through true s _ _ _ n After (set-outcome s u y f w) a (i .size)
-      (λ h c. let q = set-facts s n u y f w c in
-      (written-view n (s .received) (h .sized .received-len) y (q .object .low) (q .object .top) f w (q .field) x ∙ rw (other-object i u y d (q .txn) (q .object .page) (q .lock)), refl))
-  foreign-stays (flush u p image) d r k a = let i = here n some s b v (flush u p image) refl a in through (eqb (length image) pageWords) s _ _ _ n After (flush-outcome s u p image) a (i .size)
-      (λ h c. let f = flush-facts s n u p image c in
-      (refl, copied-view n (s .received) (s .copies) p (h .sized .received-len) (h .sized .copies-len) (f .page) x ∙ rw (elsewhere i u p d (f .txn) (f .page) (f .lock)) refl))
-  foreign-stays force d r k a = both force refl a
-  foreign-stays (store p) d r k a = both (store p) refl a
-  foreign-stays empty d r k a = both empty refl a
-  foreign-stays pass d r k a = both pass refl a
-  foreign-stays step d r k a =
-      let i = here n some s b v step refl a in
-      let o = step-outcome s .ran a in
-      let h′ = opened true s (o .n) (o .ready) in
-      let e : o .n ≡ n = sym (h′ .sized .count) ∙ i .size in
-      let z : callStep s ≡ stepped s n = o .gives ∙ ap (stepped s) e in
-      step-stays n s b i (rw e at h′) t x (k refl) (step-facts s (o .passed) .one-runs) (callStep s) (step-way s n (callStep s) a z)
-  foreign-stays reopen d r k a = clash refl r
-  foreign-stays restep d r k a = clash refl r
-  foreign-stays (mark u m) d r k a = both (mark u m) refl a
-  foreign-stays (back u m) d r k a = back-leaves n some s b v u m a x (unwritten (here n some s b v (back u m) refl a) u d)
-  foreign-stays (look q) d r k a = both (look q) refl a
+  foreign-stays c d r k a = unwritten-stays n some s b v x c
+      (λ u e. unwritten (here n some s b v c r a) u (ne-eqb u t (λ z. clash (rw z at e) d))) r (λ e. (t, k e)) a

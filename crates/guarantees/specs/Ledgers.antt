@@ -22,6 +22,14 @@ unfoldable pub kept : {L : Type 0} → Ledger L → Point → L → Event → L
 kept g q l (call c) = let k = g .enters l c (q .store .received) in if (accepts q c) k l
 kept g q l power = g .drops l
 
+-- two ledgers side by side
+abbrev pub both : {L M : Type 0} → Ledger L → Ledger M → Ledger (L × M)
+both g h = record {
+  first = (g .first, h .first);
+  enters = λ l c r. (g .enters (l .0) c r, h .enters (l .1) c r);
+  drops = λ l. (g .drops (l .0), h .drops (l .1));
+}
+
 -- at every point of the list, the last too, with the ledger as it then is
 pub data AtEveryKept (n : ℕ) (L : Type 0) (g : Ledger L) (Q : Point → L → Type 0) : Point → L → List Event → Type 0 where
   last : {q : Point} {l : L} → Q q l → AtEveryKept n L g Q q l []

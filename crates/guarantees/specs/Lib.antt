@@ -9,11 +9,13 @@ pub mod Held
 pub mod Chains
 pub mod Cuts
 pub mod Ledgers
+pub mod Permits
 pub mod Holders
 pub mod Sameness
 pub mod Restoring
 pub mod Readers
 pub mod Recall
+pub mod Rights
 pub mod Steps
 pub mod Shares
 pub mod OwnNumbers

@@ -7,7 +7,7 @@ use lib.Dec.{eqb}
 use Rattle.pages.specs.Geometry.{pageOf}
 use Rattle.areas.specs.Areas.{Areas}
 use Rattle.areas.specs.Entry.{pages}
-use Rattle.calls.specs.Calls.{Call, reopens, perform, begin, commit, abort, lockRead, lockWrite, read, create, setWord, flush, force, store, empty, pass, step, reopen, restep, mark, back, look}
+use Rattle.calls.specs.Calls.{Call, reopens, perform, begin, commit, abort, grant, lockRead, lockWrite, read, create, setWord, flush, force, store, empty, pass, step, reopen, restep, mark, back, look}
 use Rattle.book.specs.Demand.{Point, accepts, reclaims}
 use Rattle.guarantees.specs.Ledgers.{AlwaysKept}
 use Rattle.guarantees.specs.Holders.{Granted, grants, holds}
@@ -15,9 +15,10 @@ use Rattle.guarantees.specs.Sameness.{SameObject}
 
 -- t's own calls; those of the collector, the log, the disk and the desk are nobody's
 abbrev pub own : ℕ → Call → Bool
-own t (begin u) = eqb u t
+own t (begin u c) = eqb u t
 own t (commit u) = eqb u t
 own t (abort u) = eqb u t
+own t (grant c p r) = false
 own t (lockRead u p) = eqb u t
 own t (lockWrite u p) = eqb u t
 own t (read u o buffer) = eqb u t

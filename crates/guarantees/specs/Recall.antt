@@ -11,7 +11,7 @@ use Rattle.pages.specs.Geometry.{slotWords}
 use Rattle.pages.specs.Objects.{wordOf}
 use Rattle.areas.specs.declared.Answer.the-variants.{Done}
 use Rattle.calls.specs.Objects.{bufferAfter}
-use Rattle.calls.specs.Calls.{Call, perform, begin, commit, abort, lockRead, lockWrite, read, create, setWord, flush, force, store, empty, pass, step, reopen, restep, mark, back, look}
+use Rattle.calls.specs.Calls.{Call, perform, begin, commit, abort, grant, lockRead, lockWrite, read, create, setWord, flush, force, store, empty, pass, step, reopen, restep, mark, back, look}
 use Rattle.book.specs.Demand.{Point}
 use Rattle.guarantees.specs.Ledgers.{Ledger, AlwaysKept}
 
@@ -42,9 +42,10 @@ forgets l t = record { has = λ u y. not (eqb u t) && l .has u y; word = l .word
 
 -- an accepted call, which finds the received pages r: 'Read .. gives its eight received words'; create: 'words 0'
 abbrev pub recalling : Recalled → Call → List ℕ → Recalled
-recalling l (begin t) r = forgets l t
+recalling l (begin t c) r = forgets l t
 recalling l (commit t) r = forgets l t
 recalling l (abort t) r = forgets l t
+recalling l (grant c p x) r = l
 recalling l (lockRead t p) r = l
 recalling l (lockWrite t p) r = l
 recalling l (read t o buffer) r = sees l t o (wordOf r o)

@@ -7,7 +7,7 @@ use lib.Dec.{eqb}
 use Rattle.pages.specs.Geometry.{pageWords, slotWords}
 use Rattle.areas.specs.declared.Refusal.the-variants.{Malformed, LogFull}
 use Rattle.areas.specs.declared.Answer.the-variants.{Refused}
-use Rattle.calls.specs.Calls.{Call, perform, begin, commit, abort, lockRead, lockWrite, read, create, setWord, flush, force, store, empty, pass, step, reopen, restep, mark, back, look}
+use Rattle.calls.specs.Calls.{Call, perform, begin, commit, abort, grant, lockRead, lockWrite, read, create, setWord, flush, force, store, empty, pass, step, reopen, restep, mark, back, look}
 use Rattle.book.specs.Demand.{Point, accepts}
 use Rattle.guarantees.specs.Points.{Always}
 
@@ -32,9 +32,10 @@ RoomToEnd = Always Endable
 
 -- the lengths of a call's own buffers are right
 abbrev pub ownFits : Call → Bool
-ownFits (begin t) = true
+ownFits (begin t c) = true
 ownFits (commit t) = true
 ownFits (abort t) = true
+ownFits (grant c p r) = true
 ownFits (lockRead t p) = true
 ownFits (lockWrite t p) = true
 ownFits (read t o buffer) = eqb (length buffer) slotWords

@@ -5,7 +5,7 @@ use mathlib.Core.Path.{_≡_}
 use mathlib.Core.Bool.{Bool, true, false}
 use mathlib.Core.List.{List, []}
 use Rattle.areas.specs.Entry.{pages}
-use Rattle.calls.specs.Calls.{Call, perform, begin, commit, abort, lockRead, lockWrite, read, create, setWord, flush, force, store, empty, pass, step, reopen, restep, mark, back, look}
+use Rattle.calls.specs.Calls.{Call, perform, begin, commit, abort, grant, lockRead, lockWrite, read, create, setWord, flush, force, store, empty, pass, step, reopen, restep, mark, back, look}
 use Rattle.book.specs.Books.{committedPages}
 use Rattle.book.specs.Feeding.{put}
 use Rattle.book.specs.Demand.{Point, accepts}
@@ -33,9 +33,10 @@ abbrev pub locking : Noted → Call → Noted
 locking l c = record { granted = granting (l .granted) c; pages = l .pages; owned = l .owned }
 
 abbrev pub noting : Noted → Call → List ℕ → Noted
-noting l (begin t) r = locking l (begin t)
+noting l (begin t c) r = locking l (begin t c)
 noting l (commit t) r = locking l (commit t)
 noting l (abort t) r = locking l (abort t)
+noting l (grant c p x) r = locking l (grant c p x)
 noting l (lockRead t p) r = locking l (lockRead t p)
 noting l (lockWrite t p) r = locking l (lockWrite t p)
 noting l (read t o buffer) r = locking l (read t o buffer)

@@ -11,7 +11,7 @@ use Rattle.areas.specs.Layout.{passPageAt, stepsAt}
 use Rattle.areas.specs.Tables.{at, passRuns, isMarking, isBlack, passFirst, passPages}
 use Rattle.areas.specs.Entry.{pages}
 use Rattle.calls.specs.PassShares.{passBound}
-use Rattle.calls.specs.Calls.{Call, perform, begin, commit, abort, lockRead, lockWrite, read, create, setWord, flush, force, store, empty, pass, step, reopen, restep, mark, back, look}
+use Rattle.calls.specs.Calls.{Call, perform, begin, commit, abort, grant, lockRead, lockWrite, read, create, setWord, flush, force, store, empty, pass, step, reopen, restep, mark, back, look}
 use Rattle.book.specs.Books.{opened}
 use Rattle.book.specs.Demand.{Point, accepts}
 use Rattle.guarantees.specs.Ledgers.{Ledger, AlwaysKept}
@@ -22,9 +22,10 @@ pub data Part : Type 0 where
 
 -- 'a reopening ends it early'; 'whatever calls come between'
 abbrev pub partOf : Call → Part
-partOf (begin t) = other
+partOf (begin t c) = other
 partOf (commit t) = commits
 partOf (abort t) = other
+partOf (grant c p r) = other
 partOf (lockRead t p) = other
 partOf (lockWrite t p) = other
 partOf (read t o buffer) = other

@@ -9,10 +9,9 @@ use lib.Dec.{eqb}
 use Rattle.areas.specs.Answers.{answerOf, valueOf}
 use Rattle.areas.specs.Areas.{Areas, withWork}
 use Rattle.areas.specs.Layout.{activeAt, readersAt, writersAt}
-use Rattle.calls.specs.Formatting.{formatted}
 use Rattle.calls.specs.Calls.{Call, lockRead, lockWrite, perform}
 use Rattle.computing.specs.Calls.{calls}
-use Rattle.computing.specs.Stores.{sameWords, sameAreas}
+use Rattle.computing.specs.Stores.{sameWords, sameAreas, allowed}
 
 -- a mask of these transactions
 abbrev pub mask : List ℕ → ℕ
@@ -22,7 +21,7 @@ mask (t ∷ ts) = 2 ^ t + mask ts
 -- two pages, with these masks: who is active, and who reads and who writes page 1
 abbrev pub locked : ℕ → ℕ → ℕ → Areas
 locked active readers writers =
-    let s = formatted 2 8 in withWork s (set (set (set (s .work) activeAt active) (readersAt 2 1) readers) (writersAt 2 1) writers)
+    let s = allowed 2 8 in withWork s (set (set (set (s .work) activeAt active) (readersAt 2 1) readers) (writersAt 2 1) writers)
 
 -- a row: a store, a call, its number and its value
 pub data Row : Type 0 where

@@ -8,6 +8,7 @@ ghost use Rattle.pages.specs.Geometry.{pageWords, slotWords};
 ghost use Rattle.areas.specs.Areas.{areas};
 ghost use Rattle.areas.specs.Entry.{wellFormed};
 ghost use Rattle.calls.specs.Transactions.{callBegin, callCommit, callAbort};
+ghost use Rattle.calls.specs.Rights.{callGrant};
 ghost use Rattle.calls.specs.Locks.{callLockRead, callLockWrite};
 ghost use Rattle.calls.specs.Objects.{callRead, callCreate, callSet, callFlush, bufferAfter};
 ghost use Rattle.calls.specs.Stability.{callForce, callStore, callEmpty};
@@ -19,7 +20,7 @@ ghost use Rattle.calls.specs.PassShares.{shareWords, callPassShare, passShareAf
 ghost use Rattle.codes.specs.Codes.{coded};
 use codes::code;
 
-// Begins transaction t.
+// Begins transaction t as the client.
 #[no_mangle]
 pub extern "C" fn kophdaen_held_begin(
     stored: &[u32],
@@ -29,12 +30,13 @@ pub extern "C" fn kophdaen_held_begin(
     counts: &mut [u32],
     work: &mut [u32],
     t: u32,
+    client: u32,
 ) -> u64
     requires { ⌜ wellFormed true (areas (now stored) (now copies) (now received) (now log) (now counts) (now work)) ≡ true ⌝ }
-    ensures { λ r. ⌜ r ≡ coded (callBegin (areas (now (stored .entry)) (now (copies .entry)) (now (received .entry)) (now (log .entry)) (now (counts .entry)) (now (work .entry))) t .answer) ⌝ }
-    ensures { λ _. ⌜ areas (now (stored .exit)) (now (copies .exit)) (now (received .exit)) (now (log .exit)) (now (counts .exit)) (now (work .exit)) ≡ callBegin (areas (now (stored .entry)) (now (copies .entry)) (now (received .entry)) (now (log .entry)) (now (counts .entry)) (now (work .entry))) t .after ⌝ }
+    ensures { λ r. ⌜ r ≡ coded (callBegin (areas (now (stored .entry)) (now (copies .entry)) (now (received .entry)) (now (log .entry)) (now (counts .entry)) (now (work .entry))) t client .answer) ⌝ }
+    ensures { λ _. ⌜ areas (now (stored .exit)) (now (copies .exit)) (now (received .exit)) (now (log .exit)) (now (counts .exit)) (now (work .exit)) ≡ callBegin (areas (now (stored .entry)) (now (copies .entry)) (now (received .entry)) (now (log .entry)) (now (counts .entry)) (now (work .entry))) t client .after ⌝ }
 {
-    let a = transaction_calls::held_begin(stored, copies, received, log, counts, work, t);
+    let a = transaction_calls::held_begin(stored, copies, received, log, counts, work, t, client);
     code(a)
 }
 
@@ -73,6 +75,27 @@ pub extern "C" fn kophdaen_held_abort(
     ensures { λ _. ⌜ areas (now (stored .exit)) (now (copies .exit)) (now (received .exit)) (now (log .exit)) (now (counts .exit)) (now (work .exit)) ≡ callAbort (areas (now (stored .entry)) (now (copies .entry)) (now (received .entry)) (now (log .entry)) (now (counts .entry)) (now (work .entry))) t .after ⌝ }
 {
     let a = transaction_calls::held_abort(stored, copies, received, log, counts, work, t);
+    code(a)
+}
+
+// Gives client c the right r on page p: 0 nothing, 1 reading, 2 reading and writing.
+#[no_mangle]
+pub extern "C" fn kophdaen_held_grant(
+    stored: &[u32],
+    copies: &[u32],
+    received: &[u32],
+    log: &[u32],
+    counts: &[u32],
+    work: &mut [u32],
+    c: u32,
+    p: u32,
+    r: u32,
+) -> u64
+    requires { ⌜ wellFormed true (areas (now stored) (now copies) (now received) (now log) (now counts) (now work)) ≡ true ⌝ }
+    ensures { λ x. ⌜ x ≡ coded (callGrant (areas (now (stored .entry)) (now (copies .entry)) (now (received .entry)) (now (log .entry)) (now (counts .entry)) (now (work .entry))) c p r .answer) ⌝ }
+    ensures { λ _. ⌜ areas (now (stored .exit)) (now (copies .exit)) (now (received .exit)) (now (log .exit)) (now (counts .exit)) (now (work .exit)) ≡ callGrant (areas (now (stored .entry)) (now (copies .entry)) (now (received .entry)) (now (log .entry)) (now (counts .entry)) (now (work .entry))) c p r .after ⌝ }
+{
+    let a = right_calls::held_grant(stored, copies, received, log, counts, work, c, p, r);
     code(a)
 }
 

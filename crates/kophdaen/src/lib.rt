@@ -3,6 +3,7 @@ ghost use mathlib.Core.Path.{_≡_};
 ghost use Rattle.areas.specs.Areas.{areas};
 ghost use Rattle.calls.specs.Formatting.{callFormat};
 ghost use Rattle.calls.specs.Transactions.{callBegin, callCommit, callAbort};
+ghost use Rattle.calls.specs.Rights.{callGrant};
 ghost use Rattle.calls.specs.Locks.{callLockRead, callLockWrite};
 ghost use Rattle.calls.specs.Objects.{callRead, callCreate, callSet, callFlush, bufferAfter};
 ghost use Rattle.calls.specs.Stability.{callForce, callStore, callEmpty};
@@ -35,7 +36,7 @@ pub extern "C" fn kophdaen_format(
     code(a)
 }
 
-// Begins transaction t.
+// Begins transaction t as the client.
 #[no_mangle]
 pub extern "C" fn kophdaen_begin(
     stored: &[u32],
@@ -45,11 +46,12 @@ pub extern "C" fn kophdaen_begin(
     counts: &mut [u32],
     work: &mut [u32],
     t: u32,
+    client: u32,
 ) -> u64
-    ensures { λ r. ⌜ r ≡ coded (callBegin (areas (now (stored .entry)) (now (copies .entry)) (now (received .entry)) (now (log .entry)) (now (counts .entry)) (now (work .entry))) t .answer) ⌝ }
-    ensures { λ _. ⌜ areas (now (stored .exit)) (now (copies .exit)) (now (received .exit)) (now (log .exit)) (now (counts .exit)) (now (work .exit)) ≡ callBegin (areas (now (stored .entry)) (now (copies .entry)) (now (received .entry)) (now (log .entry)) (now (counts .entry)) (now (work .entry))) t .after ⌝ }
+    ensures { λ r. ⌜ r ≡ coded (callBegin (areas (now (stored .entry)) (now (copies .entry)) (now (received .entry)) (now (log .entry)) (now (counts .entry)) (now (work .entry))) t client .answer) ⌝ }
+    ensures { λ _. ⌜ areas (now (stored .exit)) (now (copies .exit)) (now (received .exit)) (now (log .exit)) (now (counts .exit)) (now (work .exit)) ≡ callBegin (areas (now (stored .entry)) (now (copies .entry)) (now (received .entry)) (now (log .entry)) (now (counts .entry)) (now (work .entry))) t client .after ⌝ }
 {
-    let a = transaction_calls::begin(stored, copies, received, log, counts, work, t);
+    let a = transaction_calls::begin(stored, copies, received, log, counts, work, t, client);
     code(a)
 }
 
@@ -86,6 +88,26 @@ pub extern "C" fn kophdaen_abort(
     ensures { λ _. ⌜ areas (now (stored .exit)) (now (copies .exit)) (now (received .exit)) (now (log .exit)) (now (counts .exit)) (now (work .exit)) ≡ callAbort (areas (now (stored .entry)) (now (copies .entry)) (now (received .entry)) (now (log .entry)) (now (counts .entry)) (now (work .entry))) t .after ⌝ }
 {
     let a = transaction_calls::abort(stored, copies, received, log, counts, work, t);
+    code(a)
+}
+
+// Gives client c the right r on page p: 0 nothing, 1 reading, 2 reading and writing.
+#[no_mangle]
+pub extern "C" fn kophdaen_grant(
+    stored: &[u32],
+    copies: &[u32],
+    received: &[u32],
+    log: &[u32],
+    counts: &[u32],
+    work: &mut [u32],
+    c: u32,
+    p: u32,
+    r: u32,
+) -> u64
+    ensures { λ x. ⌜ x ≡ coded (callGrant (areas (now (stored .entry)) (now (copies .entry)) (now (received .entry)) (now (log .entry)) (now (counts .entry)) (now (work .entry))) c p r .answer) ⌝ }
+    ensures { λ _. ⌜ areas (now (stored .exit)) (now (copies .exit)) (now (received .exit)) (now (log .exit)) (now (counts .exit)) (now (work .exit)) ≡ callGrant (areas (now (stored .entry)) (now (copies .entry)) (now (received .entry)) (now (log .entry)) (now (counts .entry)) (now (work .entry))) c p r .after ⌝ }
+{
+    let a = right_calls::grant(stored, copies, received, log, counts, work, c, p, r);
     code(a)
 }
 

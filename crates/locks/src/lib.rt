@@ -6,10 +6,10 @@ ghost use Rattle.words.specs.Tests.{lowest};
 ghost use Rattle.words.specs.Bits.{bit, withoutBit};
 ghost use Rattle.records.specs.Records.{txnCount};
 ghost use Rattle.areas.specs.Answers.{verdict};
-ghost use Rattle.areas.specs.Layout.{HasTables};
+ghost use Rattle.areas.specs.Layout.{HasTables, HasUndoing};
 ghost use Rattle.areas.specs.Tables.{at};
 ghost use Rattle.calls.specs.Locks.{readLocked, writeLocked};
-ghost use Rattle.locks.specs.Checks.{wayTo, lockTests};
+ghost use Rattle.locks.specs.Checks.{ClientsIn, rightFor, wayTo, lockTests};
 use areas::Check;
 use areas::Refusal;
 use areas::layout;
@@ -51,9 +51,20 @@ fn way_to(w: &[u32], n: usize, t: u32, p: usize, writing: bool) -> Way
     }
 }
 
-// Refusals 3, 4 and 6 of a lock.
+// The right that a lock needs.
+fn right_for(writing: bool) -> u32
+    ensures { λ r. ⌜ r ≡ rightFor writing ⌝ }
+{
+    if writing {
+        layout::WRITING
+    } else {
+        layout::READING
+    }
+}
+
+// Refusals 3, 4, 19 and 6 of a lock.
 pub fn lock_check(w: &[u32], n: usize, t: u32, p: u32, writing: bool) -> Check
-    requires { ⌜ HasTables (now w) n ⌝ }
+    requires { ⌜ HasUndoing (now w) n 0 × ClientsIn (now w) n ⌝ }
     ensures { λ r. ⌜ r ≡ verdict (lockTests (now (w .entry)) n t p writing) ⌝ }
 {
     let page = p as usize;
@@ -62,6 +73,9 @@ pub fn lock_check(w: &[u32], n: usize, t: u32, p: u32, writing: bool) -> Check
     }
     if !store_ops::has(w, layout::ACTIVE_AT, t) {
         return Check::Refuse(Refusal::WrongState);
+    }
+    if !rights::may_lock(w, n, t, page, right_for(writing)) {
+        return Check::Refuse(Refusal::RightMissing);
     }
     let way = way_to(w, n, t, page, writing);
     match way {

@@ -6,11 +6,11 @@ use mathlib.Core.Bool.{Bool, true, not}
 use mathlib.Core.List.{List}
 use mathlib.Core.Logic.{inl, inr}
 use lib.ListN.{length}
-use lib.Seq.{getD-set-same}
+use lib.Seq.{getD-set-same, getD-set-other}
 use lib.Dec.{eqb}
 use Rattle.words.specs.Bits.{withoutBit, bit-without}
 use Rattle.pages.specs.Geometry.{isObject, objectCount}
-use Rattle.areas.specs.Layout.{phaseAt, activeAt, readersAt, writersAt, unflushedAt, knownAt, prunedAt, createdAt, colourAt, tableWords, markCount, markedAt, orderAt}
+use Rattle.areas.specs.Layout.{phaseAt, activeAt, readersAt, writersAt, unflushedAt, knownAt, prunedAt, createdAt, colourAt, tableWords, markCount, markedAt, orderAt, clientAt}
 use Rattle.areas.specs.Tables.{at, lose, passRuns}
 use Rattle.words.specs.Spans.{fill, length-fill, fill-inside, fill-outside}
 use Rattle.calls.specs.Transactions.{leaves, endedEntry, endedEntries, withoutMarks, endedTables}
@@ -85,29 +85,39 @@ module _ (w : List ℕ) (n t : ℕ) where
   seven : Beside activeAt (colourAt n 1) w w7
   seven = later (wider six (omega arith) (omega arith)) (wider from6 (omega arith) (omega arith))
 
-  -- the marks' words stand behind all of these
-  marks : Beside (tableWords n) (orderAt n t markCount) w7 (endedTables w n t)
-  unfolding endedTables withoutMarks
-  marks = later (wider (beside-fill (λ m. 0) w7 (markedAt n t 0) markCount) (omega arith) (omega arith)) (wider (beside-fill (λ m. 0) _ (orderAt n t 0) markCount) (omega arith) (omega arith))
+  -- the words of marks and clients stand behind all of these
+  abbrev w8 : List ℕ
+  w8 = withoutMarks w7 n t
 
-  pub ended-beside : Beside activeAt (orderAt n t markCount) w (endedTables w n t)
+  abbrev end : ℕ
+  end = orderAt n t markCount + clientAt n t
+
+  unmarked : Beside (tableWords n) end w7 w8
+  unfolding withoutMarks
+  unmarked = later (wider (beside-fill (λ m. 0) w7 (markedAt n t 0) markCount) (omega arith) (omega arith)) (wider (beside-fill (λ m. 0) _ (orderAt n t 0) markCount) (omega arith) (omega arith))
+
+  marks : Beside (tableWords n) end w7 (endedTables w n t)
+  unfolding endedTables
+  marks = later unmarked (wider (beside-set w8 (clientAt n t) 0) (omega arith) (omega arith))
+
+  pub ended-beside : Beside activeAt end w (endedTables w n t)
   ended-beside = later (wider seven (omega arith) (omega arith)) (wider marks (omega arith) (omega arith))
 
   pub ended-pass : passOf (endedTables w n t) n ≡ passOf w n
   ended-pass = pass-kept marks n (inr (omega arith)) (inr (omega arith)) ∙ pass-kept seven n (inr (omega arith)) (inl (omega arith))
 
   -- no mark of t is set, and others' stay
-  pub ended-unset : (m : ℕ) → m < markCount → orderAt n t markCount ≤ length w → at (endedTables w n t) (orderAt n t m) ≡ 0
+  pub ended-unset : t < txnCount → (m : ℕ) → m < markCount → orderAt n t markCount ≤ length w → at (endedTables w n t) (orderAt n t m) ≡ 0
   unfolding endedTables withoutMarks
-  ended-unset m l len = ap (at (endedTables w n t)) place ∙ fill-inside (λ m. 0) (fill (λ m. 0) w7 (markedAt n t 0) markCount) (orderAt n t 0) markCount m
+  ended-unset small m l len = getD-set-other w8 (clientAt n t) (orderAt n t m) 0 0 (λ z. omega arith) ∙ ap (at w8) place ∙ fill-inside (λ m. 0) (fill (λ m. 0) w7 (markedAt n t 0) markCount) (orderAt n t 0) markCount m
       (let a = seven .same-length in let b = length-fill (λ m. 0) w7 (markedAt n t 0) markCount in omega arith) l
     where
       place : orderAt n t m ≡ orderAt n t 0 + m
       place = omega arith
 
-  pub ended-others : (j : ℕ) → tableWords n ≤ j → ((m : ℕ) → m < markCount → (j ≡ markedAt n t m → ⊥) × (j ≡ orderAt n t m → ⊥)) → at (endedTables w n t) j ≡ at w j
+  pub ended-others : (j : ℕ) → tableWords n ≤ j → (j ≡ clientAt n t → ⊥) → ((m : ℕ) → m < markCount → (j ≡ markedAt n t m → ⊥) × (j ≡ orderAt n t m → ⊥)) → at (endedTables w n t) j ≡ at w j
   unfolding endedTables withoutMarks
-  ended-others j l h = fill-outside (λ m. 0) (fill (λ m. 0) w7 (markedAt n t 0) markCount) (orderAt n t 0) markCount j 0 (λ m k z. h m k .1 (omega arith))
+  ended-others j l c h = getD-set-other w8 (clientAt n t) j 0 0 c ∙ fill-outside (λ m. 0) (fill (λ m. 0) w7 (markedAt n t 0) markCount) (orderAt n t 0) markCount j 0 (λ m k z. h m k .1 (omega arith))
       ∙ fill-outside (λ m. 0) w7 (markedAt n t 0) markCount j 0 (λ m k z. h m k .0 (omega arith))
       ∙ seven .above j (omega arith)
 

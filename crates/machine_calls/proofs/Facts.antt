@@ -62,9 +62,9 @@ module _ (a : Areas) (n : ℕ) (s : St) (e : Shows (a .work) n s) where
   unfolding Objects.pageOf
   own-is t o h f w = wr-is t (pageOf o) ∙ page-bit (a .work) n (writersAt n) t (pageOf o) h (f .page) ∙ w
 
-  pub begin-facts : (t m : ℕ) → Accepted.BeginFacts a n t → s .tags .now ≤ m → Facts.BeginFacts s t m
+  pub begin-facts : (t c m : ℕ) → Accepted.BeginFacts a n t c → s .tags .now ≤ m → Facts.BeginFacts s t m
   unfolding Objects.txns
-  begin-facts t m f l = record { small = f .txn; inactive = act-is t (f .txn) ∙ f .inactive; line = l }
+  begin-facts t c m f l = record { small = f .txn; inactive = act-is t (f .txn) ∙ f .inactive; line = l }
 
   pub commit-facts : (t m : ℕ) → Accepted.CommitFacts a n t → s .tags .now ≤ m → Facts.CommitFacts s t m
   commit-facts t m f l = record {

@@ -6,9 +6,9 @@ use mathlib.Core.Bool.{true, not}
 use mathlib.Core.List.{List}
 use lib.ListN.{length}
 use Rattle.pages.specs.Soundness.{areaSound}
-use Rattle.areas.specs.Layout.{activeAt, unflushedAt, tableWords}
-use Rattle.areas.specs.Tables.{gain, lose}
-use Rattle.calls.specs.Transactions.{knowsRoot, endedTables}
+use Rattle.areas.specs.Layout.{unflushedAt, tableWords}
+use Rattle.areas.specs.Tables.{lose}
+use Rattle.calls.specs.Transactions.{begunTables, endedTables}
 use Rattle.calls.specs.Locks.{readLocked, writeLocked}
 use Rattle.calls.specs.Objects.{learned}
 use Rattle.calls.specs.Marks.{takenBack}
@@ -36,12 +36,12 @@ pub record Shows (w : List ℕ) (n : ℕ) (s : St) : Type 0 where
   pub pass : s .pass ≡ passOf w n
 
 module _ (w : List ℕ) (n : ℕ) (len : tableWords n ≤ length w) (s : St) (e : Shows w n s) where
-  pub begin-shows : 1 ≤ n → (t m : ℕ) → t < txnCount → Shows (knowsRoot (gain w activeAt t) n t) n (Calls.begun s t m)
-  begin-shows some t m small = record {
+  pub begin-shows : 1 ≤ n → (t c m : ℕ) → t < txnCount → Shows (begunTables w n t c) n (Calls.begun s t m)
+  begin-shows some t c m small = record {
     count = e .count;
-    locks = rw (e .locks) (sym (begin-locks w n t some len small));
-    tables = rw (e .tables) (sym (begin-tables w n t some len small));
-    pass = e .pass ∙ sym (begin-pass w n t some);
+    locks = rw (e .locks) (sym (begin-locks w n t some c small len));
+    tables = rw (e .tables) (sym (begin-tables w n t some c small len));
+    pass = e .pass ∙ sym (begin-pass w n t some c small);
   }
 
   pub commit-shows : (t m : ℕ) → t < txnCount → Shows (endedTables w n t) n (Calls.committed s t m)

@@ -13,7 +13,7 @@ use Rattle.words.specs.Tests.{by-bool}
 use Rattle.pages.specs.Geometry.{pageOf, objectCount}
 use Rattle.records.specs.declared.Record.{Record}
 use Rattle.records.specs.Records.{txnCount, isCreate}
-use Rattle.areas.specs.Layout.{unflushedAt, knownAt, prunedAt, tableWords, markCount, markedAt, orderFrom, orderAt, undoingAt, undoingFrom}
+use Rattle.areas.specs.Layout.{unflushedAt, knownAt, prunedAt, tableWords, markCount, markedAt, orderFrom, orderAt, undoingAt, clientsFrom}
 use Rattle.areas.specs.Tables.{gain, lose}
 use Rattle.calls.specs.Marks.{orderOf, movedUp, othersSet, setLast, takenBack, dropped}
 use Rattle.collector.specs.Bits.{_and_, _or_}
@@ -111,14 +111,14 @@ module _ (w : List ℕ) (n t c : ℕ) (r : Record) (low : 1 ≤ r .object) (top 
 
 -- marks stand behind the tables
 module _ (w : List ℕ) (n t m : ℕ) (small : t < txnCount) (mark : m < markCount) where
-  pub set-last-beside : Beside (orderFrom n) (undoingFrom n) w (setLast w n t m)
+  pub set-last-beside : Beside (orderFrom n) (clientsFrom n) w (setLast w n t m)
   unfolding setLast
   set-last-beside = later (wider (beside-over (movedUp (orderOf w n t m)) w (orderAt n t 0) markCount) (omega arith) (omega arith))
       (wider (beside-set _ (orderAt n t m) (othersSet w n t m + 1)) (omega arith) (omega arith))
 
-pub dropped-beside : (w : List ℕ) (n t a k : ℕ) → t < txnCount → k ≤ markCount → Beside (tableWords n) (undoingFrom n) w (dropped w n t a k)
+pub dropped-beside : (w : List ℕ) (n t a k : ℕ) → t < txnCount → k ≤ markCount → Beside (tableWords n) (clientsFrom n) w (dropped w n t a k)
 unfolding dropped
-dropped-beside w n t a zero small l = beside-self (tableWords n) (undoingFrom n) w
+dropped-beside w n t a zero small l = beside-self (tableWords n) (clientsFrom n) w
 dropped-beside w n t a (suc j) small l = let b = dropped-beside w n t a j small (omega arith) in by-bool (ltb a (orderOf (dropped w n t a j) n t j))
     (λ e. rw e (later b (later (wider (beside-set (dropped w n t a j) (markedAt n t j) 0) (omega arith) (omega arith)) (wider (beside-set _ (orderAt n t j) 0) (omega arith) (omega arith)))))
     (λ e. rw e b)

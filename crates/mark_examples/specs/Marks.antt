@@ -17,10 +17,10 @@ use Rattle.areas.specs.Areas.{Areas, receivedCount}
 use Rattle.areas.specs.Layout.{singleWords, activeAt, unflushedFrom, prunedFrom, coloursFrom, prunedAt, createdAt, undoingFrom}
 use Rattle.areas.specs.Tables.{at, has, undoes}
 use Rattle.areas.specs.Entry.{pages, records}
-use Rattle.calls.specs.Formatting.{formatted, cut}
+use Rattle.calls.specs.Formatting.{cut}
 use Rattle.calls.specs.Calls.{Call, begin, commit, abort, lockWrite, read, create, setWord, flush, force, store, empty, reopen, mark, back, perform}
 use Rattle.computing.specs.Calls.{calls}
-use Rattle.computing.specs.Stores.{sameWords, sameAreas, refusedBy, after}
+use Rattle.computing.specs.Stores.{sameWords, sameAreas, refusedBy, after, allowed}
 
 -- the words of these records
 unfoldable pub wordsOf : List Record → List ℕ
@@ -57,7 +57,7 @@ keeps s a =
 
 -- one page, and a log with room for what follows
 abbrev pub fresh : Areas
-fresh = formatted 1 32
+fresh = allowed 1 32
 
 -- page 0 with this map, whose lowest bit is object 1, and no word written
 abbrev pub blank : ℕ → List ℕ
@@ -66,7 +66,7 @@ blank map = map ∷ replicate (pageWords - 1) 0
 -- a crew tries a layout: object 2 stays, the rest comes after mark 0, and the last set after mark 1
 abbrev pub tried : List Call
 tried =
-    begin 0 ∷ lockWrite 0 0 ∷ create 0 2 ∷ mark 0 0 ∷ setWord 0 1 0 2 ∷ create 0 3 ∷ setWord 0 3 4 7 ∷ mark 0 1 ∷ setWord 0 1 1 3 ∷ []
+    begin 0 0 ∷ lockWrite 0 0 ∷ create 0 2 ∷ mark 0 0 ∷ setWord 0 1 0 2 ∷ create 0 3 ∷ setWord 0 3 4 7 ∷ mark 0 1 ∷ setWord 0 1 1 3 ∷ []
 
 -- page 0 with the layout
 abbrev pub layout : List ℕ
@@ -87,8 +87,8 @@ unfolding logged wordsOf sameWords after calls
 not-yet-undone = refl
 
 -- 'its': what another transaction wrote since stays
-pub its-own : after (begin 0 ∷ begin 1 ∷ lockWrite 0 0 ∷ lockWrite 1 1 ∷ mark 0 0 ∷ setWord 0 1 4 7 ∷ create 1 17 ∷ back 0 0 ∷ setWord 1 17 4 7 ∷ abort 1 ∷ [])
-    (logged 4 (setOf 0 1 4 7 0 ∷ setOf 1 17 4 0 7 ∷ setOf 1 17 4 7 0 ∷ uncreateOf 1 17 ∷ abortedOf 1 ∷ [])) (formatted 2 32) ≡ true
+pub its-own : after (begin 0 0 ∷ begin 1 0 ∷ lockWrite 0 0 ∷ lockWrite 1 1 ∷ mark 0 0 ∷ setWord 0 1 4 7 ∷ create 1 17 ∷ back 0 0 ∷ setWord 1 17 4 7 ∷ abort 1 ∷ [])
+    (logged 4 (setOf 0 1 4 7 0 ∷ setOf 1 17 4 0 7 ∷ setOf 1 17 4 7 0 ∷ uncreateOf 1 17 ∷ abortedOf 1 ∷ [])) (allowed 2 32) ≡ true
 unfolding logged wordsOf sameWords after calls
 its-own = refl
 
@@ -98,19 +98,19 @@ unfolding accepts refusedBy room sameWords sameAreas after calls
 later-dropped = refl
 
 -- 'and set one again': it becomes the last, though no record stands between the marks
-pub set-again : after (begin 0 ∷ mark 0 0 ∷ mark 0 1 ∷ mark 0 0 ∷ back 0 1 ∷ []) (refuses 16 (back 0 0)) fresh ≡ true
+pub set-again : after (begin 0 0 ∷ mark 0 0 ∷ mark 0 1 ∷ mark 0 0 ∷ back 0 1 ∷ []) (refuses 16 (back 0 0)) fresh ≡ true
 unfolding refusedBy sameWords sameAreas after calls
 set-again = refl
 
 -- 'they end with it': the next transaction of that number has none
-pub end-with-it : after (begin 0 ∷ mark 0 0 ∷ commit 0 ∷ begin 0 ∷ []) (refuses 16 (back 0 0)) fresh ≡ true
+pub end-with-it : after (begin 0 0 ∷ mark 0 0 ∷ commit 0 ∷ begin 0 0 ∷ []) (refuses 16 (back 0 0)) fresh ≡ true
 unfolding refusedBy sameWords sameAreas after calls
 end-with-it = refl
 
 -- 'Errors: 16, mark not set, after 4; a mark above 3 is 3': nothing is active in the first two lines, then 0 is, without a mark
 pub refusals : (refuses 3 (mark 0 4) fresh && refuses 3 (mark 16 0) fresh && refuses 4 (mark 0 3) fresh
     && refuses 3 (back 0 4) fresh && refuses 3 (back 16 0) fresh && refuses 4 (back 0 3) fresh
-    && after (begin 0 ∷ []) (λ s. refuses 3 (back 0 4) s && refuses 16 (back 0 3) s && refuses 4 (back 1 3) s) fresh
+    && after (begin 0 0 ∷ []) (λ s. refuses 3 (back 0 4) s && refuses 16 (back 0 3) s && refuses 4 (back 1 3) s) fresh
     && after (reopen ∷ []) (λ s. refuses 2 (mark 16 4) s && refuses 2 (back 16 4) s) fresh) ≡ true
 unfolding refusedBy sameWords sameAreas after calls
 refusals = refl
@@ -140,14 +140,14 @@ unfolding logged wordsOf accepts sameWords after calls
 abort-after = refl
 
 -- a word set back by hand is no undoing, though its record has the same words: an abort undoes both sets
-pub by-hand : after (begin 0 ∷ lockWrite 0 0 ∷ setWord 0 1 4 7 ∷ setWord 0 1 4 0 ∷ []) (λ s.
+pub by-hand : after (begin 0 0 ∷ lockWrite 0 0 ∷ setWord 0 1 4 7 ∷ setWord 0 1 4 0 ∷ []) (λ s.
     room 3 3 s && accepts 6 (abort 0) (logged 3 (setOf 0 1 4 0 7 ∷ setOf 0 1 4 7 0 ∷ abortedOf 0 ∷ [])) s) fresh ≡ true
 unfolding logged wordsOf accepts room sameWords after calls
 by-hand = refl
 
 -- 'the undoing uses the reserve': no set fits a full log, going back does, and the end too
-pub full-log : after (begin 0 ∷ lockWrite 0 0 ∷ mark 0 0 ∷ setWord 0 1 4 7 ∷ setWord 0 1 5 7 ∷ setWord 0 1 6 7 ∷ [])
-    (λ s. refuses 11 (setWord 0 1 7 7) s && accepts 0 (back 0 0) (λ a. refuses 11 (setWord 0 1 7 7) a && accepts 8 (abort 0) (room 8 0) a) s) (formatted 1 8) ≡ true
+pub full-log : after (begin 0 0 ∷ lockWrite 0 0 ∷ mark 0 0 ∷ setWord 0 1 4 7 ∷ setWord 0 1 5 7 ∷ setWord 0 1 6 7 ∷ [])
+    (λ s. refuses 11 (setWord 0 1 7 7) s && accepts 0 (back 0 0) (λ a. refuses 11 (setWord 0 1 7 7) a && accepts 8 (abort 0) (room 8 0) a) s) (allowed 1 8) ≡ true
 unfolding accepts refusedBy room sameWords sameAreas after calls
 full-log = refl
 
@@ -166,8 +166,8 @@ unfolding sameWords after calls
 cut-between = refl
 
 -- a log that holds an undoing record, emptied: the record that next comes to its place is no undoing, and an abort undoes it
-pub emptied-log : after (begin 0 ∷ lockWrite 0 0 ∷ mark 0 0 ∷ setWord 0 1 4 7 ∷ back 0 0 ∷ flush 0 0 (blank 1) ∷ commit 0 ∷ replicate 4 force
-    ++ (empty ∷ begin 0 ∷ lockWrite 0 0 ∷ setWord 0 1 4 7 ∷ setWord 0 1 5 8 ∷ abort 0 ∷ []))
+pub emptied-log : after (begin 0 0 ∷ lockWrite 0 0 ∷ mark 0 0 ∷ setWord 0 1 4 7 ∷ back 0 0 ∷ flush 0 0 (blank 1) ∷ commit 0 ∷ replicate 4 force
+    ++ (empty ∷ begin 0 0 ∷ lockWrite 0 0 ∷ setWord 0 1 4 7 ∷ setWord 0 1 5 8 ∷ abort 0 ∷ []))
     (λ s. logged 3 (setOf 0 1 5 8 0 ∷ setOf 0 1 4 7 0 ∷ abortedOf 0 ∷ []) s
     && sameWords (take (records s) (drop (undoingFrom (pages s)) (s .work))) (replicate (records s) 0)) fresh ≡ true
 unfolding logged wordsOf sameWords after calls

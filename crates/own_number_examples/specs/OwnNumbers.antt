@@ -1,37 +1,20 @@
 -- Document 02, L8: sets of an object's own number, and old stores that hold one, in lists of calls with their answers. Assumes nothing.
 use Prim.Native.Nat.{ℕ}
 use mathlib.Core.Path.{_≡_, refl}
-use mathlib.Core.Bool.{Bool, true, _&&_}
-use mathlib.Core.List.{List, [], _∷_, _++_}
+use mathlib.Core.Bool.{true, _&&_}
+use mathlib.Core.List.{List, [], _∷_}
 use lib.ListN.{replicate, set}
 use lib.Dec.{eqb}
 use Rattle.pages.specs.Geometry.{slotWords, pageWords}
 use Rattle.pages.specs.Objects.{mapAt, wordOf, written}
 use Rattle.records.specs.Records.{recordAt}
-use Rattle.areas.specs.Answers.{answerOf, valueOf}
 use Rattle.areas.specs.Areas.{Areas}
 use Rattle.areas.specs.Layout.{prunedAt}
 use Rattle.areas.specs.Tables.{has}
-use Rattle.calls.specs.Formatting.{formatted, cut}
-use Rattle.calls.specs.Calls.{Call, begin, commit, abort, lockWrite, read, create, setWord, flush, force, pass, step, reopen, restep, mark, back, perform}
+use Rattle.calls.specs.Calls.{begin, commit, abort, lockWrite, read, create, setWord, flush, force, pass, step, reopen, restep, mark, back}
 use Rattle.computing.specs.Calls.{calls}
-use Rattle.computing.specs.Stores.{sameWords, sameAreas, refusedBy}
-
--- a row: a call that is accepted with this value; one that is refused with this number, every word as it was; what then holds of the store;
--- the power fails
-pub data Row : Type 0 where
-  takes : Call → ℕ → Row
-  refuses : Call → ℕ → Row
-  holds : (Areas → Bool) → Row
-  power : Row
-
--- the rows are right, one after the other
-unfoldable pub right : List Row → Areas → Bool
-right [] s = true
-right (takes c v ∷ rs) s = let o = perform s c in let on = right rs (o .after) in eqb (answerOf (o .answer)) 0 && eqb (valueOf (o .answer)) v && on
-right (refuses c x ∷ rs) s = let on = right rs s in refusedBy x 0 s c && on
-right (holds f ∷ rs) s = let on = right rs s in f s && on
-right (power ∷ rs) s = let on = right rs (cut s) in on
+use Rattle.computing.specs.Stores.{sameWords, sameAreas, refusedBy, allowed}
+use Rattle.computing.specs.Rows.{Row, takes, refuses, holds, power, right}
 
 -- page 0 with this map, and these words 0 of objects 1 and 2
 abbrev pub page : ℕ → ℕ → ℕ → List ℕ
@@ -40,7 +23,7 @@ page m x y = written (written (set (replicate pageWords 0) 0 m) 1 0 x) 2 0 y
 -- a tablet's morning: the root and a new object, in every word that a set may name
 abbrev pub morning : List Row
 morning =
-    takes (begin 0) 1
+    takes (begin 0 0) 1
     ∷ takes (lockWrite 0 0) 0
     -- the root counts; data words take any number
     ∷ refuses (setWord 0 1 0 1) 18
@@ -55,7 +38,7 @@ morning =
     -- a word out of range, another transaction, a page that is not locked
     ∷ refuses (setWord 0 2 8 2) 3
     ∷ refuses (setWord 1 2 0 2) 4
-    ∷ takes (begin 1) 6
+    ∷ takes (begin 1 0) 6
     ∷ refuses (setWord 1 1 0 1) 5
     ∷ takes (flush 0 0 (written (written (page 3 2 0) 1 4 1) 2 3 1)) 0
     ∷ takes (commit 0) 7
@@ -65,14 +48,14 @@ morning =
     ∷ takes step 0
     ∷ []
 
-pub a-morning : right morning (formatted 1 16) ≡ true
+pub a-morning : right morning (allowed 1 16) ≡ true
 unfolding right refusedBy sameAreas sameWords calls
 a-morning = refl
 
 -- '18 .. after 7', and so before 11: in a log of five records
 abbrev pub fullLog : List Row
 fullLog =
-    takes (begin 0) 1
+    takes (begin 0 0) 1
     ∷ takes (lockWrite 0 0) 0
     ∷ takes (setWord 0 1 6 1) 2
     ∷ refuses (setWord 0 1 1 1) 18
@@ -81,13 +64,13 @@ fullLog =
     ∷ refuses (setWord 0 2 0 2) 7
     ∷ []
 
-pub a-full-log : right fullLog (formatted 1 5) ≡ true
+pub a-full-log : right fullLog (allowed 1 5) ≡ true
 unfolding right refusedBy sameAreas sameWords calls
 a-full-log = refl
 
 -- a store of before with these pages, open
 unfoldable pub holding : List ℕ → Areas
-holding p = let s = formatted 1 16 in record { stored = p; copies = p; received = p; log = s .log; counts = s .counts; work = s .work }
+holding p = let s = allowed 1 16 in record { stored = p; copies = p; received = p; log = s .log; counts = s .counts; work = s .work }
 
 -- word 0 of object 2 in the received pages and in the copies
 abbrev pub second : ℕ → ℕ → Row
@@ -100,7 +83,7 @@ set2 i old new = holds (λ s. let r = recordAt (s .log) i in eqb (r .kind) 3 && 
 -- 'Ones already stored stay, are read, marked and reopened, and may be overwritten. Undoing may put an old one back.': 1 names 2, 2 names itself
 abbrev pub oldOne : List Row
 oldOne =
-    takes (begin 0) 1
+    takes (begin 0 0) 1
     ∷ takes (lockWrite 0 0) 0
     ∷ takes (read 0 1 (replicate slotWords 0)) 2
     ∷ takes (read 0 2 (replicate slotWords 0)) 2
@@ -119,7 +102,7 @@ oldOne =
     ∷ set2 2 0 2
     ∷ second 2 2
     -- put back by going back to a mark
-    ∷ takes (begin 0) 5
+    ∷ takes (begin 0 0) 5
     ∷ takes (lockWrite 0 0) 0
     ∷ takes (read 0 1 (replicate slotWords 0)) 2
     ∷ takes (mark 0 0) 0

@@ -8,10 +8,9 @@ use lib.Dec.{eqb}
 use Rattle.pages.specs.Objects.{mapAt}
 use Rattle.areas.specs.Answers.{answerOf, valueOf}
 use Rattle.areas.specs.Areas.{Areas}
-use Rattle.calls.specs.Formatting.{formatted}
 use Rattle.calls.specs.Calls.{Call, begin, commit, lockRead, lockWrite, read, create, setWord, flush, pass, step, perform}
 use Rattle.computing.specs.Calls.{calls}
-use Rattle.computing.specs.Stores.{sameWords, sameAreas, refusedBy, after}
+use Rattle.computing.specs.Stores.{sameWords, sameAreas, refusedBy, after, allowed}
 
 -- a call is accepted with this value
 unfoldable pub accepts : ℕ → Call → Areas → Bool
@@ -27,18 +26,18 @@ but image i v = set image i v
 
 -- object 2 is created and committed, and nothing names it
 abbrev pub garbage : List Call
-garbage = begin 0 ∷ lockWrite 0 0 ∷ create 0 2 ∷ flush 0 0 (page 3) ∷ commit 0 ∷ []
+garbage = begin 0 0 ∷ lockWrite 0 0 ∷ create 0 2 ∷ flush 0 0 (page 3) ∷ commit 0 ∷ []
 
 -- the root is scanned, and the pass turns to sweeping: the next step is of the page
 abbrev pub toSweeping : List Call
 toSweeping = pass ∷ step ∷ step ∷ []
 
 -- 'a page is skipped only if someone has it write-locked': under a reader it is swept, under a writer it is not
-pub swept-under-a-reader : after (garbage ++ begin 1 ∷ lockRead 1 0 ∷ read 1 1 (replicate 8 0) ∷ toSweeping) (accepts 1 step) (formatted 1 16) ≡ true
+pub swept-under-a-reader : after (garbage ++ begin 1 0 ∷ lockRead 1 0 ∷ read 1 1 (replicate 8 0) ∷ toSweeping) (accepts 1 step) (allowed 1 16) ≡ true
 unfolding accepts after calls
 swept-under-a-reader = refl
 
-pub skipped-under-a-writer : after (garbage ++ begin 1 ∷ lockWrite 1 0 ∷ toSweeping) (accepts 0 step) (formatted 1 16) ≡ true
+pub skipped-under-a-writer : after (garbage ++ begin 1 0 ∷ lockWrite 1 0 ∷ toSweeping) (accepts 0 step) (allowed 1 16) ≡ true
 unfolding accepts after calls
 skipped-under-a-writer = refl
 
@@ -81,7 +80,7 @@ stale =
     ∷ refuses (page 1 ++ 0 ∷ []) 1
     ∷ []
 
-pub stale-images : after (garbage ++ begin 1 ∷ lockRead 1 0 ∷ toSweeping ++ step ∷ lockWrite 1 0 ∷ []) (allRight 1 stale) (formatted 1 16) ≡ true
+pub stale-images : after (garbage ++ begin 1 0 ∷ lockRead 1 0 ∷ toSweeping ++ step ∷ lockWrite 1 0 ∷ []) (allRight 1 stale) (allowed 1 16) ≡ true
 unfolding allRight right refusedBy sameAreas sameWords after calls
 stale-images = refl
 
@@ -98,6 +97,6 @@ last =
     ∷ refuses (but (but (page 32769) 128 9) 121 1) 9
     ∷ []
 
-pub last-slot : after (begin 0 ∷ lockWrite 0 0 ∷ create 0 16 ∷ setWord 0 16 7 9 ∷ []) (allRight 0 last) (formatted 1 16) ≡ true
+pub last-slot : after (begin 0 0 ∷ lockWrite 0 0 ∷ create 0 16 ∷ setWord 0 16 7 9 ∷ []) (allRight 0 last) (allowed 1 16) ≡ true
 unfolding allRight right refusedBy sameAreas sameWords after calls
 last-slot = refl

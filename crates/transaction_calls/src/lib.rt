@@ -9,7 +9,7 @@ use areas::Check;
 use areas::Refusal;
 use pages::PAGE_WORDS;
 
-// Begins transaction t. A store that is known to be well formed.
+// Begins transaction t as the client. A store that is known to be well formed.
 pub fn held_begin(
     stored: &[u32],
     copies: &[u32],
@@ -18,22 +18,31 @@ pub fn held_begin(
     counts: &mut [u32],
     work: &mut [u32],
     t: u32,
+    client: u32,
 ) -> Answer
     requires { ⌜ wellFormed true (areas (now stored) (now copies) (now received) (now log) (now counts) (now work)) ≡ true ⌝ }
-    ensures { λ r. ⌜ out r (now (stored .exit)) (now (copies .exit)) (now (received .exit)) (now (log .exit)) (now (counts .exit)) (now (work .exit)) ≡ callBegin (areas (now (stored .entry)) (now (copies .entry)) (now (received .entry)) (now (log .entry)) (now (counts .entry)) (now (work .entry))) t ⌝ }
+    ensures { λ r. ⌜ out r (now (stored .exit)) (now (copies .exit)) (now (received .exit)) (now (log .exit)) (now (counts .exit)) (now (work .exit)) ≡ callBegin (areas (now (stored .entry)) (now (copies .entry)) (now (received .entry)) (now (log .entry)) (now (counts .entry)) (now (work .entry))) t client ⌝ }
 {
     if !entry::is_open(work) {
         return Answer::Refused(Refusal::NotOpen);
     }
     let n = stored.len() / PAGE_WORDS;
-    let k = transactions::begin_check(log, counts, work, n, t);
+    let k = transactions::begin_check(log, counts, work, n, t, client);
     match k {
         Check::Refuse(x) => Answer::Refused(x),
-        Check::Accept => Answer::Done(transactions::begin_apply(received, log, counts, work, n, t)),
+        Check::Accept => Answer::Done(transactions::begin_apply(
+            received,
+            log,
+            counts,
+            work,
+            n,
+            t,
+            client,
+        )),
     }
 }
 
-// Begins transaction t.
+// Begins transaction t as the client.
 pub fn begin(
     stored: &[u32],
     copies: &[u32],
@@ -42,13 +51,14 @@ pub fn begin(
     counts: &mut [u32],
     work: &mut [u32],
     t: u32,
+    client: u32,
 ) -> Answer
-    ensures { λ r. ⌜ out r (now (stored .exit)) (now (copies .exit)) (now (received .exit)) (now (log .exit)) (now (counts .exit)) (now (work .exit)) ≡ callBegin (areas (now (stored .entry)) (now (copies .entry)) (now (received .entry)) (now (log .entry)) (now (counts .entry)) (now (work .entry))) t ⌝ }
+    ensures { λ r. ⌜ out r (now (stored .exit)) (now (copies .exit)) (now (received .exit)) (now (log .exit)) (now (counts .exit)) (now (work .exit)) ≡ callBegin (areas (now (stored .entry)) (now (copies .entry)) (now (received .entry)) (now (log .entry)) (now (counts .entry)) (now (work .entry))) t client ⌝ }
 {
     if !entry::well_formed(stored, copies, received, log, counts, work, true) {
         return Answer::Refused(Refusal::Malformed);
     }
-    held_begin(stored, copies, received, log, counts, work, t)
+    held_begin(stored, copies, received, log, counts, work, t, client)
 }
 
 // Commits transaction t. A store that is known to be well formed.

@@ -4,19 +4,21 @@ use Prim.Native.Nat.{ℕ, _+_, _-_, _≤_}
 use mathlib.Core.Path.{_≡_, sym, ap, _∙_}
 use mathlib.Core.Bool.{not}
 use mathlib.Core.List.{List}
+use lib.ListN.{set}
 use lib.Dec.{eqb}
 use native.Mathlib.Omega.{arith}
 use Rattle.words.specs.Spans.{over, fill, over-outside}
 use Rattle.pages.specs.Geometry.{objectCount, root}
-use Rattle.areas.specs.Layout.{activeAt, phaseAt, readersAt, writersAt, unflushedAt, knownAt, prunedAt, createdAt, colourAt, markCount, markedAt, orderAt}
+use Rattle.areas.specs.Layout.{activeAt, phaseAt, readersAt, writersAt, unflushedAt, knownAt, prunedAt, createdAt, colourAt, markCount, markedAt, orderAt, clientAt}
 use Rattle.areas.specs.Tables.{gain, lose, passRuns}
-use Rattle.calls.specs.Transactions.{leaves, knowsRoot, endedEntry, endedEntries, withoutMarks, endedTables}
+use Rattle.calls.specs.Transactions.{leaves, begunTables, endedEntry, endedEntries, withoutMarks, endedTables}
 use Rattle.store_ops.specs.Tables.{over-join}
 
 -- the masks of known objects begin at a, that of the root stands at b
-pub tables-begun : (w : List ℕ) (n t : ℕ) {v u x : List ℕ} {a b : ℕ} → a ≡ knownAt n 1 → b ≡ knownAt n root →
-    v ≡ gain w activeAt t → u ≡ leaves t v a (objectCount n) → x ≡ gain u b t → x ≡ knowsRoot (gain w activeAt t) n t
-tables-begun w n t ea eb g l k = k ∙ rw (l, g, ea, eb)
+pub tables-begun : (w : List ℕ) (n t c : ℕ) {v u x y : List ℕ} {a b : ℕ} → a ≡ knownAt n 1 → b ≡ knownAt n root →
+    v ≡ gain w activeAt t → u ≡ leaves t v a (objectCount n) → x ≡ gain u b t → y ≡ set x (clientAt n t) c → y ≡ begunTables w n t c
+unfolding begunTables
+tables-begun w n t c ea eb g l k h = h ∙ rw (k, l, g, ea, eb)
 
 -- a run of words up to word b, and the k words from b to e
 joined : (f : ℕ → ℕ) (w : List ℕ) (a b e k : ℕ) → a ≤ b → e ≡ b + k → over f (over f w a (b - a)) b k ≡ over f w a (e - a)
@@ -52,11 +54,11 @@ unfolding withoutMarks
 marks-ended w n t ea eb hv hx = hx ∙ rw (hv, ea, eb)
 
 -- the masks begin at a, the entries at b, and end at d
-pub tables-ended : (w : List ℕ) (n t : ℕ) {v u x y : List ℕ} {a b d : ℕ} → a ≡ readersAt n 0 → b ≡ prunedAt n 1 → d ≡ colourAt n 1 →
-    v ≡ lose w activeAt t → u ≡ leaves t v a (b - a) → x ≡ endedEntries t u b (d - b) → y ≡ withoutMarks x n t → y ≡ endedTables w n t
+pub tables-ended : (w : List ℕ) (n t : ℕ) {v u x y z : List ℕ} {a b d : ℕ} → a ≡ readersAt n 0 → b ≡ prunedAt n 1 → d ≡ colourAt n 1 →
+    v ≡ lose w activeAt t → u ≡ leaves t v a (b - a) → x ≡ endedEntries t u b (d - b) → y ≡ withoutMarks x n t → z ≡ set y (clientAt n t) 0 → z ≡ endedTables w n t
 unfolding endedTables
-tables-ended w n t ea eb ed hv hu hx hy =
+tables-ended w n t ea eb ed hv hu hx hy hz =
     let l = lose w activeAt t in
-    hy ∙ ap (λ (z : List ℕ). withoutMarks z n t) (hx ∙ rw (hu, hv, ea, eb, ed)
+    hz ∙ rw hy (ap (λ (z : List ℕ). set (withoutMarks z n t) (clientAt n t) 0) (hx ∙ rw (hu, hv, ea, eb, ed)
     (sym (ap (λ (y : List ℕ). endedEntries t (endedEntries t y (prunedAt n 1) (objectCount n)) (createdAt n 1) (objectCount n)) (masks l n t)
-    ∙ entries (leaves t l (readersAt n 0) (prunedAt n 1 - readersAt n 0)) n t)))
+    ∙ entries (leaves t l (readersAt n 0) (prunedAt n 1 - readersAt n 0)) n t))))

@@ -7,6 +7,7 @@ ghost use Rattle.areas.specs.Areas.{areas};
 ghost use Rattle.areas.specs.Layout.{HasUndoing};
 ghost use Rattle.calls.specs.Room.{roomWithin};
 ghost use Rattle.calls.specs.Transactions.{withoutMarks, endedTables};
+use super::clients::note_client;
 use areas::layout;
 use records::RECORD_WORDS;
 
@@ -41,4 +42,5 @@ pub fn end_tables(work: &mut [u32], n: usize, t: u32)
     store_ops::leave_all(work, masks, entries - masks, t);
     ended_entries::end_entries(work, entries, end - entries, t);
     end_marks(work, n, t);
+    note_client(work, n, t, 0);
 }

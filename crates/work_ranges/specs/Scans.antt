@@ -10,8 +10,8 @@ use Rattle.words.specs.Tests.{all, all-none, all-next, all-split, all-same, and
 use Rattle.words.specs.Spans.{upTo}
 use Rattle.areas.specs.Tables.{at}
 use Rattle.pages.specs.Geometry.{objectCount}
-use Rattle.records.specs.Records.{maskTop}
-use Rattle.areas.specs.Layout.{finished, flaggedTop, stepsTop, colourTop, reopeningAt, reopeningPageAt, phaseAt, passPageAt, stepsAt, activeAt, readersAt, writersAt, unflushedAt, knownAt, prunedAt, createdAt, colourAt, markWords, markedAt, orderAt, undoingAt, changesTop, orderTop, undoingTop}
+use Rattle.records.specs.Records.{txnCount, maskTop}
+use Rattle.areas.specs.Layout.{finished, flaggedTop, stepsTop, colourTop, reopeningAt, reopeningPageAt, phaseAt, passPageAt, stepsAt, activeAt, readersAt, writersAt, unflushedAt, knownAt, prunedAt, createdAt, colourAt, markWords, markedAt, orderAt, clientCount, clientAt, rightAt, undoingAt, changesTop, orderTop, clientTop, writing, undoingTop}
 use Rattle.areas.specs.Ranges.{rowsInRange, workInRange}
 
 pub up-to-none : (w : List ℕ) (a top : ℕ) → true ≡ upTo w a 0 top
@@ -80,21 +80,33 @@ firstInRange w n =
     && leb (at w passPageAt) (n - 1)
     && leb (at w stepsAt) (stepsTop n)
 
--- the tests as the code makes them: the five words, and six runs with the answers x, y, z, a, b and d
-module _ (w : List ℕ) (n l : ℕ) {x y z a b d : Bool} (ex : x ≡ upTo w activeAt (maskWords n) maskTop)
-    (ey : y ≡ upTo w (prunedAt n 1) (flaggedWords n) flaggedTop) (ez : z ≡ upTo w (colourAt n 1) (objectCount n) colourTop)
-    (ea : a ≡ upTo w (markedAt n 0 0) markWords (changesTop l)) (eb : b ≡ upTo w (orderAt n 0 0) markWords (orderTop l))
-    (ed : d ≡ upTo w (undoingAt n 0) l (undoingTop l)) where
-  work-scan : firstInRange w n && x && y && z && a && b && d ≡ workInRange w n l
-  unfolding workInRange rowsInRange
+-- the tables behind the colours
+unfoldable pub laterInRange : List ℕ → ℕ → ℕ → Bool
+laterInRange w n l =
+    upTo w (markedAt n 0 0) markWords (changesTop l)
+    && upTo w (orderAt n 0 0) markWords (orderTop l)
+    && upTo w (clientAt n 0) txnCount (clientTop l)
+    && upTo w (rightAt n 0 0) (clientCount * n) writing
+    && upTo w (undoingAt n 0) l (undoingTop l)
+
+-- five runs with the answers a, b, c, r and d
+pub later-go : (w : List ℕ) (n l : ℕ) {a b c r d : Bool} → a ≡ upTo w (markedAt n 0 0) markWords (changesTop l) → b ≡ upTo w (orderAt n 0 0) markWords (orderTop l) →
+    c ≡ upTo w (clientAt n 0) txnCount (clientTop l) → r ≡ upTo w (rightAt n 0 0) (clientCount * n) writing → d ≡ upTo w (undoingAt n 0) l (undoingTop l) →
+    a && b && c && r && d ≡ laterInRange w n l
+unfolding laterInRange
+later-go w n l ea eb ec er ed = rw (ea, eb, ec, er, ed)
+
+-- the tests as the code makes them: the five words, three runs with the answers x, y and z, and the tables behind them
+module _ (w : List ℕ) (n l : ℕ) {x y z a : Bool} (ex : x ≡ upTo w activeAt (maskWords n) maskTop)
+    (ey : y ≡ upTo w (prunedAt n 1) (flaggedWords n) flaggedTop) (ez : z ≡ upTo w (colourAt n 1) (objectCount n) colourTop) (ea : a ≡ laterInRange w n l) where
+  work-scan : firstInRange w n && x && y && z && a ≡ workInRange w n l
+  unfolding workInRange rowsInRange laterInRange
   work-scan =
       rw (
         ex ∙ sym (masks w n maskTop),
         ey ∙ sym (flagged w n flaggedTop),
         ez,
         ea,
-        eb,
-        ed,
         up-to-one w reopeningAt finished,
         up-to-one w reopeningPageAt n,
         up-to-one w phaseAt 2,
@@ -102,8 +114,8 @@ module _ (w : List ℕ) (n l : ℕ) {x y z a b d : Bool} (ex : x ≡ upTo w acti
         up-to-one w stepsAt (stepsTop n),
       ) (simp (and-assoc, and-true))
 
-  pub runs-go : firstInRange w n ≡ true → x && y && z && a && b && d ≡ workInRange w n l
-  runs-go h = ap (λ (f : Bool). f && x && y && z && a && b && d) (sym h) ∙ work-scan
+  pub runs-go : firstInRange w n ≡ true → x && y && z && a ≡ workInRange w n l
+  runs-go h = ap (λ (f : Bool). f && x && y && z && a) (sym h) ∙ work-scan
 
   pub first-stops : firstInRange w n ≡ false → false ≡ workInRange w n l
-  first-stops h = ap (λ (f : Bool). f && x && y && z && a && b && d) (sym h) ∙ work-scan
+  first-stops h = ap (λ (f : Bool). f && x && y && z && a) (sym h) ∙ work-scan

@@ -8,6 +8,7 @@ use Rattle.areas.specs.Answers.{Test, numbered}
 use Rattle.areas.specs.Areas.{Areas}
 use Rattle.areas.specs.Entry.{allTests}
 use Rattle.calls.specs.Formatting.{formatTests}
+use Rattle.calls.specs.Rights.{grantTests}
 use Rattle.calls.specs.Transactions.{beginTests, commitTests, abortTests}
 use Rattle.calls.specs.Locks.{lockReadTests, lockWriteTests}
 use Rattle.calls.specs.Objects.{readTests, createTests, setTests, flushTests}
@@ -23,9 +24,10 @@ abbrev pub everyCall : Areas → ℕ → ℕ → ℕ → ℕ → ℕ → ℕ →
 everyCall s n t m p o f v image =
     allTests true true s []
     ∷ formatTests s
-    ∷ beginTests s n t
+    ∷ beginTests s n t v
     ∷ commitTests s n t
     ∷ abortTests s n t
+    ∷ grantTests s n t p v
     ∷ lockReadTests s n t p
     ∷ lockWriteTests s n t p
     ∷ readTests s n t o
@@ -52,5 +54,5 @@ allNumbered [] = true
 allNumbered (ts ∷ rest) = numbered ts && allNumbered rest
 
 pub numbers-right : (s : Areas) (n t m p o f v : ℕ) (image : List ℕ) → allNumbered (everyCall s n t m p o f v image) ≡ true
-unfolding allNumbered numbered formatTests beginTests commitTests abortTests lockReadTests lockWriteTests readTests createTests setTests flushTests forceTests storeTests emptyTests passTests stepTests sweepTests reopenTests restepTests chainTests markTests backTests passShareTests
+unfolding allNumbered numbered formatTests beginTests commitTests abortTests grantTests lockReadTests lockWriteTests readTests createTests setTests flushTests forceTests storeTests emptyTests passTests stepTests sweepTests reopenTests restepTests chainTests markTests backTests passShareTests
 numbers-right s n t m p o f v image = refl

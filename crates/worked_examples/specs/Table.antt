@@ -7,13 +7,12 @@ use mathlib.Core.Bool.{Bool, true, _&&_}
 use mathlib.Core.List.{List, [], _∷_}
 use lib.ListN.{set, take, replicate}
 use Rattle.areas.specs.Areas.{Areas, areas}
-use Rattle.calls.specs.Formatting.{formatted}
 use Rattle.calls.specs.Objects.{bufferAfter}
 use Rattle.calls.specs.Calls.{Call, begin, commit, lockWrite, read, create, setWord, flush, store, empty, reopen}
 use Rattle.texts.specs.Text.{bytes}
-use Rattle.bench_run.specs.Bench.{benchStore, benchOutput}
+use Rattle.bench_run.specs.Bench.{benchStore, benchOutput, allGiven, rightsAgain}
 use Rattle.computing.specs.Calls.{calls}
-use Rattle.computing.specs.Stores.{sameWords, sameAreas, refusedBy, after}
+use Rattle.computing.specs.Stores.{sameWords, sameAreas, refusedBy, after, allowed}
 use Rattle.texts.specs.Same.{same as same-texts}
 use Rattle.texts.specs.Lines.{linesOf}
 use Rattle.texts.specs.Fields.{fieldsOf}
@@ -48,7 +47,7 @@ unfoldable pub allRight : List Row → Bool
 allRight [] = true
 allRight (r ∷ rs) = let on = allRight rs in right r && on
 
--- the received page 0 of the formatted store, and one with a word changed
+-- the received page 0 of the bench's store, and one with a word changed
 abbrev pub image : List ℕ
 image = 1 ∷ replicate 128 0
 
@@ -58,20 +57,20 @@ kindEight = areas (benchStore .stored) (benchStore .copies) (benchStore .receive
 
 pub table : List Row
 table =
-    refusal 1 benchStore (begin 0 ∷ lockWrite 0 0 ∷ []) (flush 0 0 (take 128 image))
-    ∷ refusal 2 benchStore (reopen ∷ []) (begin 0)
-    ∷ refusal 3 benchStore [] (begin 16)
+    refusal 1 benchStore (begin 0 0 ∷ lockWrite 0 0 ∷ []) (flush 0 0 (take 128 image))
+    ∷ refusal 2 benchStore (reopen ∷ []) (begin 0 0)
+    ∷ refusal 3 benchStore [] (begin 16 0)
     ∷ refusal 4 benchStore [] (commit 3)
-    ∷ refusedRead 5 benchStore (begin 0 ∷ []) 0 1 (replicate 8 7)
-    ∷ refusal 6 benchStore (begin 0 ∷ begin 1 ∷ lockWrite 0 0 ∷ []) (lockWrite 1 0)
-    ∷ barred 1 benchStore (begin 0 ∷ begin 1 ∷ lockWrite 1 0 ∷ []) (lockWrite 0 0)
-    ∷ refusal 7 benchStore (begin 0 ∷ lockWrite 0 0 ∷ []) (setWord 0 1 0 9)
-    ∷ refusal 8 benchStore (begin 0 ∷ lockWrite 0 0 ∷ []) (create 0 1)
-    ∷ refusal 9 benchStore (begin 0 ∷ lockWrite 0 0 ∷ []) (flush 0 0 (set image 5 7))
-    ∷ refusal 10 benchStore (begin 0 ∷ lockWrite 0 0 ∷ setWord 0 1 4 7 ∷ []) (commit 0)
-    ∷ refusal 11 (formatted 4 3) (begin 0 ∷ lockWrite 0 0 ∷ []) (create 0 2)
-    ∷ refusal 12 benchStore (begin 0 ∷ lockWrite 0 0 ∷ create 0 2 ∷ []) (store 0)
-    ∷ refusal 13 benchStore (begin 0 ∷ []) empty
+    ∷ refusedRead 5 benchStore (begin 0 0 ∷ []) 0 1 (replicate 8 7)
+    ∷ refusal 6 benchStore (begin 0 0 ∷ begin 1 0 ∷ lockWrite 0 0 ∷ []) (lockWrite 1 0)
+    ∷ barred 1 benchStore (begin 0 0 ∷ begin 1 0 ∷ lockWrite 1 0 ∷ []) (lockWrite 0 0)
+    ∷ refusal 7 benchStore (begin 0 0 ∷ lockWrite 0 0 ∷ []) (setWord 0 1 0 9)
+    ∷ refusal 8 benchStore (begin 0 0 ∷ lockWrite 0 0 ∷ []) (create 0 1)
+    ∷ refusal 9 benchStore (begin 0 0 ∷ lockWrite 0 0 ∷ []) (flush 0 0 (set image 5 7))
+    ∷ refusal 10 benchStore (begin 0 0 ∷ lockWrite 0 0 ∷ setWord 0 1 4 7 ∷ []) (commit 0)
+    ∷ refusal 11 (allowed 4 3) (begin 0 0 ∷ lockWrite 0 0 ∷ []) (create 0 2)
+    ∷ refusal 12 benchStore (begin 0 0 ∷ lockWrite 0 0 ∷ create 0 2 ∷ []) (store 0)
+    ∷ refusal 13 benchStore (begin 0 0 ∷ []) empty
     ∷ refusal 14 kindEight [] reopen
     ∷ bench
     (bytes "begin,0\r\nlockw,0,0\r\ncreate,0,2\r\nset,0,1,0,2\r\nflush,0,0\r\ncommit,0\r\nbegin,1\r\nlockw,1,0\r\nset,1,1,0,0\r\nflush,1,0\r\ncommit,1\r\npass\r\nstep\r\nstep\r\nstep\r\n")
@@ -79,5 +78,5 @@ table =
     ∷ []
 
 pub table-right : allRight table ≡ true
-unfolding allRight right table sameWords sameAreas refusedBy readRefusedBy after calls same-texts fieldsOf numbersFrom callAlone callOne callTwo callFour commandOf linesOf digitsFrom numberIn digitsIn decimal outputLine pageSent transactionCall lockCall objectCall stabilityCall passCall reopeningCall benchCall outputFrom benchOutput
+unfolding allRight right table sameWords sameAreas refusedBy readRefusedBy after calls same-texts fieldsOf numbersFrom callAlone callOne callTwo callFour commandOf linesOf digitsFrom numberIn digitsIn decimal outputLine pageSent allGiven rightsAgain transactionCall lockCall objectCall stabilityCall passCall reopeningCall benchCall outputFrom benchOutput
 table-right = refl

@@ -81,7 +81,7 @@ impl Base {
 /// The other's begin, and the record that is reserved to end it, take the room of two.
 fn behind(size: Size, before_actor: usize) -> Store {
     let mut store = populated(size);
-    accept(store.begin(OTHER));
+    accept(store.begin(OTHER, CLIENT));
     fill_log(&mut store, before_actor.saturating_sub(2));
     act(&mut store);
     store
@@ -146,7 +146,7 @@ fn formatting(base: &Base, list: &mut Vec<Case>) {
 }
 
 fn transactions(base: &Base, list: &mut Vec<Case>) {
-    let begin = Call::Begin(ACTOR);
+    let begin = Call::Begin(ACTOR, CLIENT);
     add_three(list, "begin", (&base.quiet, begin), 4, (&base.flushed, begin));
     let commit = Call::Commit(ACTOR);
     add_three(list, "commit", (&base.flushed, commit), 10, (&base.acting, commit));
@@ -174,7 +174,7 @@ fn changing(base: &Base) -> Store {
     };
     let mut store = populated(base.size);
     fill_log(&mut store, others);
-    accept(store.begin(ACTOR));
+    accept(store.begin(ACTOR, CLIENT));
     accept(store.mark(ACTOR, AT_BEGIN));
     change(&mut store);
     walk(&mut store, ACTOR, own - ACTOR_RECORDS, &mut Random::new(3));
@@ -184,10 +184,12 @@ fn changing(base: &Base) -> Store {
 
 fn locks(base: &Base, list: &mut Vec<Case>) {
     let page = base.size.pages as u32 - 1;
+    let grant = Call::Grant(CLIENT, page, 1);
+    add_three(list, "grant", (&base.quiet, grant), 4, (&base.flushed, grant));
     let read = |t| Call::LockRead(t, page);
     add_three(list, "lock_read", (&base.flushed, read(ACTOR)), 4, (&base.flushed, read(OTHER)));
     let mut held = base.flushed.clone();
-    accept(held.begin(OTHER));
+    accept(held.begin(OTHER, CLIENT));
     accept(held.lock_write(OTHER, page));
     let write = Call::LockWrite(ACTOR, page);
     add_three(list, "lock_write", (&base.flushed, write), 6, (&held, write));

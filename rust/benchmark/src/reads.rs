@@ -5,28 +5,29 @@ use crate::report::{duration, head, line, Table};
 /// By the name of its case: what the call looks at, what it writes, and which sentences of the definition need
 /// it. A record has 6 words, of which a walk for what is left looks at the transaction; where it is one that is
 /// walked for, at the kind too, and at the record's undoing word.
-const CALLS: [(&str, &str, &str, &str); 22] = [
+const CALLS: [(&str, &str, &str, &str); 23] = [
     (
         "begin",
         "3 words; 1 to 3 × R; 16 × P masks",
-        "16 × P masks; a record; 2 words",
+        "16 × P masks; a record; 3 words",
         "11: beyond what running transactions reserve, a record for each change that is left and one to end, \
-         two must fit. t knows the root and nothing else",
+         two must fit. t knows the root and nothing else, and its client is noted",
     ),
     (
         "commit",
         "4 words; P masks; 51 × P masks",
-        "19 × P masks; 32 × P more, while a pass runs only the sixteens with t in one; 8 of t's marks; a record; \
-         2 words",
+        "19 × P masks; 32 × P more, while a pass runs only the sixteens with t in one; 8 of t's marks; its \
+         client; a record; 2 words",
         "10: no page has changes of t that are not flushed. t leaves every mask: readers, writers, unflushed, \
-         known (19 × P); PRT and COT, where a flag stays while a pass runs (32 × P). Its marks end with it",
+         known (19 × P); PRT and COT, where a flag stays while a pass runs (32 × P). Its marks end with it, and its client is \
+         no longer noted",
     ),
     (
         "abort",
         "4 words; of each record since t's begin 1 to 3, twice, and 6 to 7; P masks; 129 for each page that t writes; \
          51 × P masks",
-        "for each change left a record and what it changes; those pages' copies; masks, marks, a record and \
-         2 words as commit",
+        "for each change left a record and what it changes; those pages' copies; masks, marks, client, a \
+         record and 2 words as commit",
         "11: a record for each change that is left and one to end must fit. Those are undone, newest first; the \
          copies of the pages that t has locked for writing become the received pages; t leaves every mask",
     ),
@@ -45,8 +46,26 @@ const CALLS: [(&str, &str, &str, &str); 22] = [
         "2, 4; 16: the mark's place; 11: a record for each must fit. The changes since the mark that are left are \
          undone, newest first; unflushed gains t, known loses it; marks set later go",
     ),
-    ("lock_read", "4 words", "1 word", "2, 4; 6: no other writes the page, else who has it is told; t reads it, unless it writes it"),
-    ("lock_write", "4 words", "2 words", "2, 4; 6: no other reads or writes the page, else who has it is told; t writes it, and reads it no more"),
+    (
+        "grant",
+        "18 words",
+        "1 word",
+        "2; 4: the client of each transaction, beside the mask of those that are active. The right is the one given",
+    ),
+    (
+        "lock_read",
+        "6 words",
+        "1 word",
+        "2, 4; 19: t's client, and its right on the page; 6: no other writes the page, else who has it is told; t reads it, \
+         unless it writes it",
+    ),
+    (
+        "lock_write",
+        "6 words",
+        "2 words",
+        "2, 4, 19 as of lock_read; 6: no other reads or writes the page, else who has it is told; t writes it, and reads it \
+         no more",
+    ),
     (
         "read",
         "5 words; the object's 8; a mask for each reference",

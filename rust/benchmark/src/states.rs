@@ -34,16 +34,27 @@ pub const FILLS: [Fill; 3] = [Fill::Empty, Fill::Half, Fill::Full];
 pub const ACTOR: u32 = 0;
 const FILLER: u32 = 1;
 pub const OTHER: u32 = 2;
+/// The client that every transaction begins as.
+pub const CLIENT: u32 = 0;
 /// Records that the actor appends: a begin, a create and a set.
 pub const ACTOR_RECORDS: usize = 3;
+
+/// A formatted store whose client has all rights.
+pub fn formatted(size: Size) -> Store {
+    let mut store = Store::new(size.pages, size.records);
+    accept(store.format());
+    for page in 0..size.pages {
+        accept(store.grant(CLIENT, page as u32, 2));
+    }
+    store
+}
 
 /// A formatted store with nine objects to a page, in slots by chance: eight in a tree of three
 /// references each under the root, with a fourth across it, and one that nothing points to. Written
 /// straight into the three page areas: calls lead to the same words.
 pub fn populated(size: Size) -> Store {
     let mut random = Random::new(1);
-    let mut store = Store::new(size.pages, size.records);
-    accept(store.format());
+    let mut store = formatted(size);
     let mut tree = vec![ROOT];
     let mut garbage = Vec::new();
     for page in 0..size.pages {
@@ -117,7 +128,7 @@ pub fn fill_log(store: &mut Store, target: usize) {
         let most = random.below(9).min(left - 2).min(most);
         let fits = |sets: &usize| !matches!(left - sets - 2, 1 | 3);
         let sets = (0..=most).rev().find(fits).unwrap_or(left - 2);
-        accept(store.begin(FILLER));
+        accept(store.begin(FILLER, CLIENT));
         walk(store, FILLER, sets, &mut random);
         flush_all(store, FILLER);
         accept(store.commit(FILLER));
@@ -127,7 +138,7 @@ pub fn fill_log(store: &mut Store, target: usize) {
 
 /// Six records: begin, create, set, the two that undo them, aborted.
 fn abort_one(store: &mut Store, random: &mut Random) {
-    accept(store.begin(FILLER));
+    accept(store.begin(FILLER, CLIENT));
     accept(store.lock_write(FILLER, 0));
     let object = free_object(store);
     accept(store.create(FILLER, object));
@@ -192,7 +203,7 @@ pub fn free_object(store: &Store) -> u32 {
 
 /// The actor's begin, write lock of page 0, and a create and a set of a reference to it there.
 pub fn act(store: &mut Store) {
-    accept(store.begin(ACTOR));
+    accept(store.begin(ACTOR, CLIENT));
     change(store);
 }
 

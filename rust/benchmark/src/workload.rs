@@ -8,7 +8,7 @@ use model::layout::*;
 
 use crate::disk::{Disk, Sync};
 use crate::random::Random;
-use crate::states::{accept, Size};
+use crate::states::{accept, formatted, Size, CLIENT};
 
 /// The directory: a tree of objects with four references each, the root on top. A reference of a lowest
 /// one leads to a chain of three objects.
@@ -167,7 +167,7 @@ impl<S: Server> Depot<S> {
     pub fn transaction(&mut self) {
         let t = (self.run % 16) as u32;
         self.drain();
-        self.call(Use::Changing, Call::Begin(t));
+        self.call(Use::Changing, Call::Begin(t, CLIENT));
         let lowest = self.descend(t);
         self.pass_step();
         let pages = self.change(t, lowest);
@@ -304,8 +304,7 @@ pub fn free_in(received: &[u32], page: usize) -> impl Iterator<Item = u32> {
 
 /// A formatted store with the directory, without chains. Written straight into the page areas.
 fn directory(plan: Plan) -> Store {
-    let mut store = Store::new(plan.size.pages, plan.size.records);
-    accept(store.format());
+    let mut store = formatted(plan.size);
     for i in 0..plan.directories() {
         let object = i as u32 + 1;
         store.stored[map_at(page_of(object))] |= 1 << slot_of(object);

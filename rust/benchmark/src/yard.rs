@@ -4,7 +4,7 @@ use kophdaen::{Store, OBJECT_WORDS};
 use model::layout::*;
 
 use crate::random::Random;
-use crate::states::{accept, flush_all, force_all, received, shuffle, Size};
+use crate::states::{accept, flush_all, force_all, formatted, received, shuffle, Size, CLIENT};
 use crate::workload::free_in;
 
 /// What a record is, in its last word. A site leads to four sites or dispensers, a dispenser to two valves
@@ -47,8 +47,7 @@ struct Yard {
 /// The stored pages after all are installed and some rounds of readings, in which a valve in eight visits is
 /// replaced; a pass after each round frees the old ones. The log is empty.
 pub fn yard(size: Size) -> Vec<u32> {
-    let mut yard = Yard { store: Store::new(size.pages, size.records), random: Random::new(5), jobs: 0, crew: 1 };
-    accept(yard.store.format());
+    let mut yard = Yard { store: formatted(size), random: Random::new(5), jobs: 0, crew: 1 };
     yard.job(Yard::lay_out);
     (0..DISPENSERS).for_each(|place| yard.job(|yard| yard.install(place)));
     for _ in 0..ROUNDS {
@@ -74,7 +73,7 @@ impl Yard {
         }
         self.jobs += 1;
         self.crew = 1 + self.random.below(8) as u32;
-        accept(self.store.begin(T));
+        accept(self.store.begin(T, CLIENT));
         work(self);
         flush_all(&mut self.store, T);
         accept(self.store.commit(T));

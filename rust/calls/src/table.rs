@@ -7,7 +7,7 @@ use crate::Lent;
 
 /// A line has the variant with its numbers, the call's name, and the method that both sides have for it, with
 /// what it is lent before the numbers; then `lent` if it has no held form. The name is the bench program's, but
-/// for chain, mark, back and share, of which that has no line.
+/// for chain, mark, back, share and grant, of which that has no line; and its begin names no client.
 macro_rules! calls {
     ($( $call:ident $(($($number:ident),+))?, $name:literal, $method:ident $([$lent:ident])? $(, $form:ident)?; )*) => {
         #[derive(Clone, Copy, Debug, PartialEq, Eq)]
@@ -79,7 +79,7 @@ macro_rules! calls {
 
 calls! {
     Format, "format", format, lent;
-    Begin(t), "begin", begin;
+    Begin(t, client), "begin", begin;
     Commit(t), "commit", commit;
     Abort(t), "abort", abort;
     LockRead(t, page), "lockr", lock_read;
@@ -99,4 +99,5 @@ calls! {
     Mark(t, mark), "mark", mark;
     Back(t, mark), "back", back;
     PassShare(commits), "share", pass_share[buffer];
+    Grant(client, page, right), "grant", grant;
 }

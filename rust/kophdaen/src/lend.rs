@@ -20,11 +20,12 @@ macro_rules! declare {
 
 declare! {
     kophdaen_format();
-    kophdaen_begin(t: u32);
+    kophdaen_begin(t: u32, client: u32);
     kophdaen_commit(t: u32);
     kophdaen_abort(t: u32);
     kophdaen_mark(t: u32, mark: u32);
     kophdaen_back(t: u32, mark: u32);
+    kophdaen_grant(client: u32, page: u32, right: u32);
     kophdaen_lock_read(t: u32, page: u32);
     kophdaen_lock_write(t: u32, page: u32);
     kophdaen_read(buffer: *mut u32, buffer_words: usize, t: u32, object: u32);
@@ -41,11 +42,12 @@ declare! {
     kophdaen_chain(chain: *mut u32, chain_words: usize, object: u32);
     kophdaen_pass_share(share: *mut u32, share_words: usize, commits: u32);
 
-    kophdaen_held_begin(t: u32);
+    kophdaen_held_begin(t: u32, client: u32);
     kophdaen_held_commit(t: u32);
     kophdaen_held_abort(t: u32);
     kophdaen_held_mark(t: u32, mark: u32);
     kophdaen_held_back(t: u32, mark: u32);
+    kophdaen_held_grant(client: u32, page: u32, right: u32);
     kophdaen_held_lock_read(t: u32, page: u32);
     kophdaen_held_lock_write(t: u32, page: u32);
     kophdaen_held_read(buffer: *mut u32, buffer_words: usize, t: u32, object: u32);

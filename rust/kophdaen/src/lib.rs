@@ -46,9 +46,12 @@ pub const SHARE_WORDS: usize = 2;
 pub const RECORD_WORDS: usize = 6;
 pub const COUNTS_WORDS: usize = 2;
 
+/// Tablets that a transaction may begin as: clients 0 to 7.
+pub const CLIENTS: u32 = 8;
+
 /// Words of the working tables.
 pub fn work_words(pages: usize, records: usize) -> usize {
-    134 + 67 * pages + records
+    150 + 75 * pages + records
 }
 
 mod held;

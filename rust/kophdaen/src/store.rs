@@ -30,8 +30,15 @@ impl Store {
         lend!(self, kophdaen_format)
     }
 
-    pub fn begin(&mut self, t: u32) -> Answer {
-        lend!(self, kophdaen_begin, t)
+    /// Transaction `t` begins as the tablet `client`, 0 to 7.
+    pub fn begin(&mut self, t: u32, client: u32) -> Answer {
+        lend!(self, kophdaen_begin, t, client)
+    }
+
+    /// Gives `client` the right on the page: 0 nothing, 1 reading, 2 reading and writing. Refused with 4
+    /// while a transaction of that client is active. A formatted or reopened store gives nobody a right.
+    pub fn grant(&mut self, client: u32, page: u32, right: u32) -> Answer {
+        lend!(self, kophdaen_grant, client, page, right)
     }
 
     pub fn commit(&mut self, t: u32) -> Answer {
@@ -54,12 +61,14 @@ impl Store {
         lend!(self, kophdaen_back, t, mark)
     }
 
-    /// A lock for reading. Where it is refused with 6, [`Answer::holder`] tells whom to call.
+    /// A lock for reading, for which `t`'s client needs the right 1, else 19. Where it is refused with 6,
+    /// [`Answer::holder`] tells whom to call.
     pub fn lock_read(&mut self, t: u32, page: u32) -> Answer {
         lend!(self, kophdaen_lock_read, t, page)
     }
 
-    /// A lock for writing. Where it is refused with 6, [`Answer::holder`] tells whom to call.
+    /// A lock for writing, for which `t`'s client needs the right 2, else 19. Where it is refused with 6,
+    /// [`Answer::holder`] tells whom to call.
     pub fn lock_write(&mut self, t: u32, page: u32) -> Answer {
         lend!(self, kophdaen_lock_write, t, page)
     }

@@ -28,6 +28,7 @@ impl Model {
         self.ready()?;
         self.object(object)?;
         self.in_copies(object)?;
+        refuse(19, !self.somebody_may(Fault::ChainNeedsRight, page_of(object), READING))?;
         let chain = self.chain_to(object);
         refuse(15, chain.is_empty() && self.has(Fault::ChainUnreachedIsFifteen))?;
 

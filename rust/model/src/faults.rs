@@ -5,6 +5,7 @@ macro_rules! faults {
     (calls: $( $name:ident : $what:literal, )*;
      sweeps: $( $of_sweeps:ident : $what_of_sweeps:literal, )*;
      own: $( $of_own:ident : $what_of_own:literal, )*;
+     rights: $( $of_rights:ident : $what_of_rights:literal, )*;
      whole: $( $of_whole:ident : $what_of_whole:literal, )*;
      columns: $( $of_columns:ident : $what_of_columns:literal, )*) => {
         #[derive(Clone, Copy, PartialEq, Eq, Debug)]
@@ -13,6 +14,7 @@ macro_rules! faults {
             $( $name, )*
             $( $of_sweeps, )*
             $( $of_own, )*
+            $( $of_rights, )*
             $( $of_whole, )*
             $( $of_columns, )*
         }
@@ -23,6 +25,8 @@ macro_rules! faults {
         pub const SWEEP_FAULTS: &[(Fault, &str)] = &[ $( (Fault::$of_sweeps, $what_of_sweeps), )* ];
         /// .. of own numbers.
         pub const OWN_FAULTS: &[(Fault, &str)] = &[ $( (Fault::$of_own, $what_of_own), )* ];
+        /// .. of clients and their rights.
+        pub const RIGHT_FAULTS: &[(Fault, &str)] = &[ $( (Fault::$of_rights, $what_of_rights), )* ];
         /// .. and of `whole`.
         pub const WHOLE_FAULTS: &[(Fault, &str)] = &[ $( (Fault::$of_whole, $what_of_whole), )* ];
         /// .. and of `to_columns` and `from_columns`.
@@ -417,6 +421,123 @@ faults! {
     OwnNumberInFreeSlotTaken: "DECISIONS 88: an object whose slot is free may name itself",
     RingsOfTwoRefused: "DECISIONS 88: a ring of two objects is refused too",
     RingsRefused: "DECISIONS 88: every ring is refused",
+    ; rights:
+    // document 02, L9: the locks
+    RightsUntested: "no lock asks for a right",
+    ReadLockUntested: "a lock for reading asks for no right",
+    WriteLockUntested: "a lock for writing asks for no right",
+    WriteLockNeedsReading: "a lock for writing needs the right 1",
+    ReadLockNeedsWriting: "a lock for reading needs the right 2",
+    ReadLockNeedsNoMore: "a lock for reading needs the right 1, and 2 is not enough",
+    UpgradeUntested: "who reads a page may lock it for writing with any right",
+    NineteenBeforeFour: "refusal 19 comes before 4",
+    NineteenAfterSix: "refusal 19 comes after 6",
+    NineteenTellsHolder: "refusal 19 tells who has the page",
+    NineteenTellsClient: "refusal 19 tells the client",
+    NineteenTellsRight: "refusal 19 tells the right that the lock needs",
+    MissingRightIsFive: "a missing right is refused with 5",
+    MissingRightIsSix: "a missing right is refused with 6",
+    RefusedLockIsTaken: "a lock refused with 19 is taken",
+    // .. whose right, and where it stands
+    AllAreClientZero: "every transaction locks as client 0",
+    TransactionForClient: "the transaction's number, modulo 8, is taken for its client",
+    RightOfNextClient: "the next client's right is asked for",
+    RightOfNextPage: "the right on the next page is asked for",
+    RightOfAnyClient: "the highest right of any client on the page counts",
+    RightOnAnyPage: "the client's highest right on any page counts",
+    RightsByClient: "rights stand by P x client + page",
+    RightsByEightClients: "rights stand by 8 x client + page",
+    RightsByFour: "rights stand by 4 x page + client",
+    RightsBySixteen: "rights stand by 16 x page + client",
+    // .. begin
+    ClientEightTaken: "a begin as client 8 is taken",
+    ClientSevenRefused: "a begin as client 7 is refused",
+    AnyClientTaken: "a begin as any client is taken, modulo 8",
+    ClientAfterFour: "refusal 3 for a client comes after 4",
+    ClientAfterEleven: "refusal 3 for a client comes after 11",
+    ClientOutOfRangeIsNineteen: "a begin as a client out of range is refused with 19",
+    BeginKeepsClient: "begin leaves the client that is noted",
+    BeginNotesTransaction: "begin notes the transaction's number, modulo 8",
+    RefusedBeginNotesClient: "a begin refused for log room notes its client",
+    BeginNeedsRight: "a begin as a client without any right is refused with 19",
+    OneTransactionOfClient: "a second begin as a client is refused with 4",
+    // .. grant
+    GrantIgnored: "a grant changes nothing",
+    GrantWhileReopening: "a grant is taken while the reopening is not finished",
+    GrantWhileActive: "a grant is taken while a transaction of the client is active",
+    GrantWhileNoneActive: "a grant is refused with 4 while any transaction is active",
+    GrantByTransactionNumber: "a grant is refused with 4 while the transaction with the client's number is active",
+    GrantLooksAtInactive: "a client noted beside an inactive transaction counts as active",
+    GrantMayRaise: "a grant that raises the right is taken while a transaction of the client is active",
+    GrantMayLower: "a grant that lowers the right is taken while a transaction of the client is active",
+    GrantOfSameTaken: "a grant of the right that is there is taken while a transaction of the client is active",
+    GrantOfSameRefused: "a grant of the right that is there is refused with 4",
+    GrantWhereUnlocked: "a grant is refused with 4 only where a transaction of the client has the page locked",
+    GrantOverlooksFifteen: "a grant does not look at transaction 15",
+    GrantFourBeforeThree: "refusal 4 of a grant comes before 3",
+    GrantActiveIsNineteen: "a grant for a client with an active transaction is refused with 19",
+    GrantNeedsRoom: "a grant needs log room",
+    GrantNotInPass: "a grant is refused with 4 while a pass runs",
+    GrantClientEightTaken: "a grant for client 8 is taken",
+    GrantClientSevenRefused: "a grant for client 7 is refused",
+    GrantPageAboveTaken: "a grant on page P is taken",
+    GrantLastPageRefused: "a grant on page P - 1 is refused",
+    RightThreeTaken: "a grant of the right 3 is taken",
+    RightTwoRefused: "a grant of the right 2 is refused",
+    GrantTellsRight: "a grant tells the right",
+    GrantTellsOldRight: "a grant tells the right that was there",
+    GrantTellsCount: "a grant tells the received count",
+    GrantOnlyRaises: "a grant never lowers a right",
+    GrantOfNextClientToo: "a grant gives the next client the right too",
+    GrantOfNextPageToo: "a grant gives the right on the next page too",
+    GrantOfAllClients: "a grant gives every client the right on the page",
+    GrantOfAllPages: "a grant gives the client the right on every page",
+    // .. what keeps a right, and a client
+    RightsOutliveReopening: "rights stay when the store is reopened",
+    RightsOutliveCut: "rights stay when power fails",
+    RightsEndWithCommit: "a commit clears the rights of its client",
+    RightsEndWithAbort: "an abort clears the rights of its client",
+    RightsEndWithEmptying: "emptying clears all rights",
+    RightsEndWithPass: "the start of a pass clears all rights",
+    FormatGivesClientZero: "formatting gives client 0 all rights",
+    ReopeningGivesClientZero: "the last reopening step gives client 0 all rights",
+    ClientsOutliveReopening: "clients stay noted when the store is reopened",
+    ClientsOutliveCut: "clients stay noted when power fails",
+    ClientOutlivesCommit: "the client stays noted after a commit",
+    ClientOutlivesAbort: "the client stays noted after an abort",
+    ClientEndsWithMark: "setting a mark clears the client",
+    ClientEndsWithBack: "going back clears the client",
+    ClientEndsWithFlush: "a flush clears the client",
+    // .. calls that ask for no right
+    ReadRightBeforeLock: "a read without the right is refused with 19, before 5",
+    ReadRightForLock: "a read asks for the right 1 in place of the lock",
+    WriteRightForLock: "create, set and flush ask for the right 2 in place of the lock",
+    SweepNeedsRight: "a page that no client may write is not swept",
+    MarkingNeedsRight: "marking does not go on from a page that no client may read",
+    StoreNeedsRight: "store page of a page that no client may write is refused with 19",
+    ChainNeedsRight: "chain of an object on a page that no client may read is refused with 19",
+    // .. refusal 1
+    ClientsToEight: "a client word of 8 is taken",
+    ClientsToSix: "a client word of 7 is out of range",
+    ClientsOfOneRecord: "a client word above 0 is taken where L = 1",
+    ClientsOfFewRecords: "a client word above 0 is out of range where L is below 4",
+    RightsToThree: "a rights word of 3 is taken",
+    RightsToOne: "a rights word of 2 is out of range",
+    RightsOfOneRecord: "a rights word above 0 is out of range where L = 1",
+    // .. and the other readings
+    ReadTestsRight: "DECISIONS 91: a read asks for the right 1 too",
+    CreateTestsRight: "DECISIONS 91: a create asks for the right 2 too",
+    SetTestsRight: "DECISIONS 91: a set asks for the right 2 too",
+    FlushTestsRight: "DECISIONS 91: a flush asks for the right 2 too",
+    AbortTestsRight: "DECISIONS 91: an abort asks for the right 2 on the pages that it changes",
+    BackTestsRight: "DECISIONS 91: going back asks for the right 2 on the pages that it changes",
+    UpgradeNeedsReading: "DECISIONS 92: who reads a page may lock it for writing with the right 1",
+    HeldLockUntested: "DECISIONS 92: asking for what is held is accepted before 19",
+    WriterReadsUntested: "DECISIONS 92: a writer that asks to read needs no right",
+    WriterReadsAsWriter: "DECISIONS 92: a writer that asks to read needs the right 2",
+    ReopeningStepClearsRights: "DECISIONS 92: the last reopening step clears the rights",
+    InactiveClientOutOfRange: "DECISIONS 93: a client word above 0 beside an inactive transaction is out of range",
+    LockWithoutRightOutOfRange: "DECISIONS 93: a lock of an active transaction without its right is out of range",
     ; whole:
     WholeTrustsRoot: "the root is taken for occupied",
     WholeLooksAtRootAlone: "the root alone is looked at",

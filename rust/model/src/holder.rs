@@ -29,7 +29,7 @@ impl Model {
     }
 
     /// "the lowest-numbered other transaction with any lock on the page"
-    fn holder(&self, t: u32, page: usize, asked: Table) -> u32 {
+    pub(crate) fn holder(&self, t: u32, page: usize, asked: Table) -> u32 {
         let holders = self.holders(t, page, asked);
         let holds = |&u: &u32| holders & bit(u) != 0;
         // past refusal 6 there is one; a fault may leave none, and tells 0

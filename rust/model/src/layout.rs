@@ -22,8 +22,17 @@ const SINGLES: usize = 6;
 
 /// "A transaction may set marks 0 to 3" (document 02, L3).
 pub const MARKS: u32 = 4;
+/// Transactions 0 to 15.
+const TRANSACTIONS: usize = 16;
 /// Words of a table by mark: one for each mark of each transaction.
-const MARK_WORDS: usize = 16 * MARKS as usize;
+const MARK_WORDS: usize = TRANSACTIONS * MARKS as usize;
+
+/// "Each begin names a client, 0 to 7." (document 02, L9)
+pub const CLIENTS: u32 = 8;
+/// "0 nothing, 1 reading, or 2 reading and writing"
+pub const NOTHING: u32 = 0;
+pub const READING: u32 = 1;
+pub const WRITING: u32 = 2;
 
 /// Bit 16 of a PRT or COT word: entries of ended transactions.
 pub const FLAG: u32 = 1 << 16;
@@ -49,11 +58,15 @@ pub enum Table {
     LeftAtMarks,
     /// By mark: 0 where it is not set, else its place in the order of setting, from 1.
     MarkOrder,
+    /// By transaction: as which client it began, 0 once it has ended.
+    Clients,
+    /// By page, then client.
+    Rights,
     /// By log record: 1 where going back appended it.
     Undoing,
 }
 
-pub const TABLES: [Table; 10] = [
+pub const TABLES: [Table; 12] = [
     Table::Readers,
     Table::Writers,
     Table::Unflushed,
@@ -63,6 +76,8 @@ pub const TABLES: [Table; 10] = [
     Table::Colours,
     Table::LeftAtMarks,
     Table::MarkOrder,
+    Table::Clients,
+    Table::Rights,
     Table::Undoing,
 ];
 
@@ -76,20 +91,24 @@ impl Table {
             Table::Pruned => 19,
             Table::Created => 35,
             Table::Colours => 51,
-            Table::LeftAtMarks | Table::MarkOrder | Table::Undoing => 67,
+            Table::LeftAtMarks | Table::MarkOrder | Table::Clients | Table::Rights => 67,
+            Table::Undoing => 75,
         };
-        let marks = match self {
+        let of_transactions = match self {
             Table::MarkOrder => MARK_WORDS,
-            Table::Undoing => 2 * MARK_WORDS,
+            Table::Clients => 2 * MARK_WORDS,
+            Table::Rights | Table::Undoing => 2 * MARK_WORDS + TRANSACTIONS,
             _ => 0,
         };
-        SINGLES + before * pages + marks
+        SINGLES + before * pages + of_transactions
     }
 
     pub fn len(self, pages: usize, records: usize) -> usize {
         match self {
             Table::Readers | Table::Writers | Table::Unflushed => pages,
             Table::LeftAtMarks | Table::MarkOrder => MARK_WORDS,
+            Table::Clients => TRANSACTIONS,
+            Table::Rights => CLIENTS as usize * pages,
             Table::Undoing => records,
             _ => SLOTS * pages,
         }
@@ -108,8 +127,11 @@ impl Table {
             // what calls lead to: a begin takes two records of L, each change two more, and without
             // a change nothing is undone
             Table::LeftAtMarks => (records as u32).saturating_sub(2) / 2,
-            Table::MarkOrder if records == 1 => 0,
+            // where L = 1 no begin is accepted
+            Table::MarkOrder | Table::Clients if records == 1 => 0,
             Table::MarkOrder => MARKS,
+            Table::Clients => CLIENTS - 1,
+            Table::Rights => WRITING,
             Table::Undoing => u32::from(records >= 4),
             _ => 65535,
         }
@@ -136,6 +158,11 @@ pub fn work_words(pages: usize, records: usize) -> usize {
 /// Where a mark of t stands in a table by mark.
 pub fn mark_at(t: u32, mark: u32) -> usize {
     (MARKS * t + mark) as usize
+}
+
+/// Where the right of a client on a page stands among the rights.
+pub fn right_at(client: u32, page: usize) -> usize {
+    CLIENTS as usize * page + client as usize
 }
 
 /// "A reference is 0 (nothing) or 1 + 16 x page + slot".

@@ -1,4 +1,4 @@
-//! Document 01's page server and collector, and document 02's L1 to L8, over the same lent words as
+//! Document 01's page server and collector, and document 02's L1 to L9, over the same lent words as
 //! the proved library.
 //!
 //! Written from documents 01 and 02, docs/LAYOUT.md and docs/DECISIONS.md, not from the library's source.
@@ -6,6 +6,7 @@
 //! at the first refusal. The fault switch is the tests' own: with [`Fault::None`] this is the model.
 
 mod chain;
+mod clients;
 mod columns;
 pub mod faults;
 mod holder;
@@ -15,6 +16,7 @@ mod old;
 mod own;
 mod readers;
 pub mod recover;
+mod rights;
 mod share;
 pub mod sound;
 mod sweep;
@@ -126,11 +128,17 @@ impl Model {
 
     /// Refusal 5 where t has neither lock on the page.
     fn either_lock(&self, t: u32, page: usize) -> Result<(), Refusal> {
+        if self.has(Fault::ReadRightForLock) {
+            return Ok(self.asks_right(Fault::ReadRightForLock, t, page, READING)?);
+        }
         let locks = self.areas.get(Table::Readers, page) | self.areas.get(Table::Writers, page);
         self.must_have(t, page, locks)
     }
 
     fn write_lock(&self, t: u32, page: usize) -> Result<(), Refusal> {
+        if self.has(Fault::WriteRightForLock) {
+            return Ok(self.asks_right(Fault::WriteRightForLock, t, page, WRITING)?);
+        }
         let mut locks = self.areas.get(Table::Writers, page);
         if self.has(Fault::WritesUnderReadLock) {
             locks |= self.areas.get(Table::Readers, page);
@@ -214,16 +222,23 @@ impl Model {
         a.counts.fill(0);
         a.work.fill(0);
         a.work[REOPENING] = 2;
+        self.gives_nobody(Fault::FormatGivesClientZero);
         Ok(0)
     }
 
     // ---- transactions ---------------------------------------------------------------------
 
-    pub fn begin(&mut self, t: u32) -> Answer {
+    /// "Each begin names a client, 0 to 7." (document 02, L9)
+    pub fn begin(&mut self, t: u32, client: u32) -> Answer {
         self.ready()?;
         self.transaction(t)?;
+        self.client_after(3, client)?;
         refuse(4, self.active(t))?;
-        self.room(if self.has(Fault::BeginLeavesNoRoomToAbort) { 1 } else { 2 })?;
+        self.client_after(4, client)?;
+        self.client_may_begin(client)?;
+        let room = self.room(if self.has(Fault::BeginLeavesNoRoomToAbort) { 1 } else { 2 });
+        self.begin_refused(t, client, room)?;
+        self.client_after(11, client)?;
 
         self.append([1, t, 0, 0, 0, 0]);
         self.areas.work[ACTIVE] |= bit(t);
@@ -235,6 +250,7 @@ impl Model {
         if self.has(Fault::BeginDropsMarks) {
             self.end_marks(t);
         }
+        self.note_client(t, client);
         Ok(self.received_count())
     }
 
@@ -264,6 +280,7 @@ impl Model {
         self.must_be_active(t)?;
         let mut changes = self.changes_unless(Fault::AbortUndoesAgain, t);
         refuse(11, self.areas.received_count() + changes.len() + 1 > self.areas.records())?;
+        self.asks_rights(Fault::AbortTestsRight, t, &changes)?;
 
         if !self.has(Fault::AbortsOldestFirst) {
             changes.reverse();
@@ -307,6 +324,7 @@ impl Model {
             clear_bit(self.areas.table(table), t);
         }
         self.end_marks(t);
+        self.end_client(t, committed);
         for table in [Table::Pruned, Table::Created] {
             let dropped = committed
                 && match table {
@@ -330,9 +348,12 @@ impl Model {
         self.ready()?;
         self.transaction(t)?;
         self.page(page)?;
-        self.must_be_active(t)?;
         let page = page as usize;
+        self.right_after(3, t, page, Table::Readers)?;
+        self.must_be_active(t)?;
+        self.right_after(4, t, page, Table::Readers)?;
         self.not_held(t, page, Table::Readers, self.areas.get(Table::Writers, page))?;
+        self.right_after(6, t, page, Table::Readers)?;
 
         // "a writer that asks to read stays the writer"
         if self.has(Fault::WriterThatReadsBecomesReader) {
@@ -348,8 +369,10 @@ impl Model {
         self.ready()?;
         self.transaction(t)?;
         self.page(page)?;
-        self.must_be_active(t)?;
         let page = page as usize;
+        self.right_after(3, t, page, Table::Writers)?;
+        self.must_be_active(t)?;
+        self.right_after(4, t, page, Table::Writers)?;
         // "A writer excludes all others; a sole reader may become the writer"
         let mut locks = self.areas.get(Table::Writers, page);
         if !self.has(Fault::WriterBesideReaders) {
@@ -359,6 +382,7 @@ impl Model {
         if !(self.has(Fault::HeldBeforeOthers) && held) {
             self.not_held(t, page, Table::Writers, locks)?;
         }
+        self.right_after(6, t, page, Table::Writers)?;
 
         // Becoming the writer clears the reader's bit (DECISIONS 16), also where both bits were set,
         // which no calls lead to; document 01 and DECISIONS leave that case open.
@@ -387,7 +411,10 @@ impl Model {
         if self.has(Fault::KnownBeforeLock) {
             refuse(7, !self.knows(t, object))?;
         }
-        self.either_lock(t, page_of(object))?;
+        let page = page_of(object);
+        self.asks_right(Fault::ReadRightBeforeLock, t, page, READING)?;
+        self.either_lock(t, page)?;
+        self.asks_right(Fault::ReadTestsRight, t, page, READING)?;
         refuse(7, !self.knows(t, object))?;
 
         let shown = if self.has(Fault::ReadsCopies) { &self.areas.copies } else { &self.areas.received };
@@ -419,6 +446,7 @@ impl Model {
         self.must_be_active(t)?;
         let page = page_of(object);
         self.write_lock(t, page)?;
+        self.asks_right(Fault::CreateTestsRight, t, page, WRITING)?;
         let shown = if self.has(Fault::CreateLooksAtCopies) { &self.areas.copies } else { &self.areas.received };
         refuse(8, occupied(shown, object))?;
         self.room(2)?;
@@ -447,6 +475,7 @@ impl Model {
         self.not_own_after(4, set)?;
         let page = page_of(object);
         self.write_lock(t, page)?;
+        self.asks_right(Fault::SetTestsRight, t, page, WRITING)?;
         self.not_own_after(5, set)?;
         self.must_know(set)?;
         self.not_own_after(7, set)?;
@@ -507,6 +536,7 @@ impl Model {
             self.image_agrees(image, page)?;
         }
         self.write_lock(t, page)?;
+        self.asks_right(Fault::FlushTestsRight, t, page, WRITING)?;
         self.image_agrees(image, page)?;
         self.flushes_own(page)?;
 
@@ -514,6 +544,7 @@ impl Model {
         self.clear_copied(Fault::FlushClearsOwn, Area::Copies, page);
         let flushed = if self.has(Fault::FlushedForAll) { u32::MAX } else { bit(t) };
         *self.areas.page_table(Table::Unflushed, page) &= !flushed;
+        self.keeps_client(Fault::ClientEndsWithFlush, t);
         Ok(0)
     }
 
@@ -536,6 +567,7 @@ impl Model {
         let page = page as usize;
         let stable = self.areas.counts[STABLE_COUNT];
         refuse(12, self.last_naming(page) > stable && !self.has(Fault::StoresUnforced))?;
+        refuse(19, !self.somebody_may(Fault::StoreNeedsRight, page, WRITING))?;
         let shown = if self.has(Fault::StoresReceived) { &self.areas.received } else { &self.areas.copies };
         let words = shown[page_range(page)].to_vec();
         self.areas.stored[page_range(page)].copy_from_slice(&words);
@@ -558,6 +590,7 @@ impl Model {
         if self.fault == Fault::EmptyClearsLogWords {
             a.log.fill(0);
         }
+        self.keeps_rights(Fault::RightsEndWithEmptying);
         Ok(0)
     }
 
@@ -584,6 +617,7 @@ impl Model {
         if !self.has(Fault::StartKeepsStepNumber) {
             self.areas.work[PASS_STEP] = 0;
         }
+        self.keeps_rights(Fault::RightsEndWithPass);
         Ok(0)
     }
 
@@ -646,7 +680,8 @@ impl Model {
     fn scan(&mut self, object: u32) {
         let shown = if self.has(Fault::MarksByReceived) { &self.areas.received } else { &self.areas.copies };
         let own = names_itself(shown, object);
-        if occupied(shown, object) && !(own && self.has(Fault::MarkingSkipsOwn)) {
+        let followed = self.somebody_may(Fault::MarkingNeedsRight, page_of(object), READING);
+        if occupied(shown, object) && followed && !(own && self.has(Fault::MarkingSkipsOwn)) {
             let words: [u32; 4] = shown[word_at(object, 0)..][..4].try_into().unwrap();
             for target in words {
                 if target != 0 && self.areas.by_object(Table::Colours, target) == WHITE && self.is_target(target) {
@@ -693,16 +728,17 @@ impl Model {
         if self.fault != Fault::ReopenKeepsReceivedCount {
             a.counts[RECEIVED_COUNT] = a.counts[STABLE_COUNT];
         }
-        let known = a.table(Table::Known).to_vec();
-        let pass = [PHASE, PASS_PAGE, PASS_STEP].map(|word| a.work[word]);
+        let before = a.work.clone();
         a.work.fill(0);
         if self.fault == Fault::ReopenKeepsKnown {
-            a.table(Table::Known).copy_from_slice(&known);
+            let known = Table::Known.range(pages, records);
+            a.work[known.clone()].copy_from_slice(&before[known]);
         }
         if self.fault == Fault::ReopenKeepsPass {
-            a.work[PHASE..=PASS_STEP].copy_from_slice(&pass);
+            a.work[PHASE..=PASS_STEP].copy_from_slice(&before[PHASE..=PASS_STEP]);
         }
         a.work[REOPENING] = 1;
+        self.gives_nothing(&before, [Fault::RightsOutliveReopening, Fault::ClientsOutliveReopening]);
         Ok(0)
     }
 
@@ -742,6 +778,8 @@ impl Model {
         if self.fault != Fault::ReopeningPageStays {
             a.work[REOPENING_PAGE] = 0;
         }
+        self.keeps_rights(Fault::ReopeningStepClearsRights);
+        self.gives_nobody(Fault::ReopeningGivesClientZero);
     }
 
     // ---- the power cut --------------------------------------------------------------------
@@ -755,11 +793,13 @@ impl Model {
         a.log[kept..].fill(0);
         a.copies.fill(0);
         a.received.fill(0);
+        let before = a.work.clone();
         a.work.fill(0);
         a.counts.fill(0);
         if let Some(word) = a.counts.get_mut(STABLE_COUNT) {
             *word = stable;
         }
+        self.gives_nothing(&before, [Fault::RightsOutliveCut, Fault::ClientsOutliveCut]);
     }
 }
 

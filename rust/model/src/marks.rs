@@ -24,6 +24,7 @@ impl Model {
         if !(again && self.has(Fault::MarkAgainKeepsPlace)) {
             self.put_last(t, mark);
         }
+        self.keeps_client(Fault::ClientEndsWithMark, t);
         Ok(if self.has(Fault::MarkTellsChanges) { left } else { 0 })
     }
 
@@ -43,12 +44,14 @@ impl Model {
         }
         self.must_be_set(t, mark)?;
         self.room_to_undo(undone.len())?;
+        self.asks_rights(Fault::BackTestsRight, t, &undone)?;
 
         for change in self.undone(undone, OF_BACK)? {
             self.take_back(t, change);
             self.touch_what_is_kept(t, change);
         }
         self.drop_marks_after(t, mark);
+        self.keeps_client(Fault::ClientEndsWithBack, t);
         Ok(if self.has(Fault::BackTellsCount) { self.received_count() } else { 0 })
     }
 

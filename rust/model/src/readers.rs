@@ -10,14 +10,15 @@ impl Model {
     pub(crate) fn skipped(&self, page: usize) -> bool {
         let page = self.page_or_next(page, Fault::LockOfNextPage);
         let [readers, writers] = [Table::Readers, Table::Writers].map(|table| self.areas.get(table, page));
-        0 != match self.fault {
+        let locks = match self.fault {
             Fault::ReadersHoldUpSweeping => readers | writers,
             Fault::ReadersAloneHoldUpSweeping => readers,
             Fault::SweepsUnderWriteLock => 0,
             Fault::SweepsBesideReader if readers != 0 => 0,
             Fault::InactiveWritersAreSwept => writers & self.areas.work[ACTIVE],
             _ => writers,
-        }
+        };
+        locks != 0 || !self.somebody_may(Fault::SweepNeedsRight, page, WRITING)
     }
 
     /// What a sweep does to readers: nothing, but by a fault. "Records that a reader knows stay safe

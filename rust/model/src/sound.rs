@@ -1,5 +1,6 @@
 //! What is unsound, and the ranges of the working tables.
 
+use crate::clients::clients_in_range;
 use crate::faults::Fault;
 use crate::layout::*;
 use crate::old::{pages_in_range, record_in_range};
@@ -81,6 +82,7 @@ pub fn in_range(a: &Areas, pages: usize, records: usize, fault: Fault) -> bool {
                 .map(|i| a.record(i))
                 .all(|record| record_sound(record, pages, fault) && record_in_range(record, fault)))
         && pages_in_range(a, fault)
+        && clients_in_range(a, fault)
 }
 
 /// The largest value of a table's words.
@@ -92,6 +94,13 @@ fn largest_taken(table: Table, records: usize, fault: Fault) -> u32 {
         (Fault::MarkOrderToFive, Table::MarkOrder) => MARKS + 1,
         (Fault::MarkOrderOfOneRecord, Table::MarkOrder) => MARKS,
         (Fault::UndoingOfFewRecords, Table::Undoing) => 1,
+        (Fault::ClientsToEight, Table::Clients) => table.largest(records).max(CLIENTS),
+        (Fault::ClientsToSix, Table::Clients) => table.largest(records).min(CLIENTS - 2),
+        (Fault::ClientsOfOneRecord, Table::Clients) => CLIENTS - 1,
+        (Fault::ClientsOfFewRecords, Table::Clients) if records < 4 => 0,
+        (Fault::RightsToThree, Table::Rights) => WRITING + 1,
+        (Fault::RightsToOne, Table::Rights) => READING,
+        (Fault::RightsOfOneRecord, Table::Rights) if records == 1 => NOTHING,
         _ => table.largest(records),
     }
 }

@@ -251,6 +251,11 @@ fn working_place(index: usize, pages: usize, records: usize) -> String {
             let marks = MARKS as usize;
             format!("{table:?} of transaction {} mark {}", at / marks, at % marks)
         }
+        Table::Clients => format!("{table:?} of transaction {at}"),
+        Table::Rights => {
+            let clients = CLIENTS as usize;
+            format!("{table:?} of client {} on page {}", at % clients, at / clients)
+        }
         Table::Undoing => format!("{table:?} of log record {at}"),
         _ => format!("{table:?} of object {}", at + 1),
     }

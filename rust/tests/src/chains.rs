@@ -108,7 +108,7 @@ fn refusals() -> Vec<Example> {
 /// By calls: what is flushed shows, and nothing else.
 fn flushes() -> Vec<Example> {
     let created = [
-        ok(Begin(0), 1),
+        ok(Begin(0, 0), 1),
         ok(LockWrite(0, 0), 0),
         ok(LockWrite(0, 1), 0),
         ok(Create(0, 17), 2),

@@ -1,19 +1,21 @@
 //! Document 01's fourteen examples of the refusal table, its bench input and its cases on L, each
 //! with the answers that the document gives; and the examples of chains, of holders, of marks, of
-//! passes and of their shares, of readers, of the sweeping step's order, of own numbers, and of a page
-//! by columns.
+//! passes and of their shares, of readers, of the sweeping step's order, of own numbers, of clients and
+//! their rights, and of a page by columns.
 
 use calls::Call::*;
 use model::layout::*;
 
 use crate::actions::*;
 use crate::chains;
+use crate::contractors;
 use crate::holders;
 use crate::marks;
 use crate::old_stores;
 use crate::own_sets;
 use crate::passes;
 use crate::readers;
+use crate::rights;
 use crate::run::*;
 use crate::shares;
 use crate::sides::Kind;
@@ -39,7 +41,7 @@ impl Step {
     }
 }
 
-/// Steps from a formatted store on.
+/// Steps from a formatted store on; client 0 has all rights on it, as on the bench's, but in those of rights.
 pub struct Example {
     pub name: &'static str,
     pub pages: usize,
@@ -73,7 +75,7 @@ pub fn cut() -> Step {
 
 /// After these two, transaction 0 may change page 0.
 fn begun() -> [Step; 2] {
-    [ok(Begin(0), 1), ok(LockWrite(0, 0), 0)]
+    [ok(Begin(0, 0), 1), ok(LockWrite(0, 0), 0)]
 }
 
 /// What follows `begun`.
@@ -85,15 +87,15 @@ fn then<const N: usize>(steps: [Step; N]) -> Vec<Step> {
 fn refusals() -> Vec<Example> {
     let short = Request::flush(0, 0, Image::Long(128));
     let changed = Request::flush(0, 0, Image::Changed(5, 1));
-    let held = [ok(Begin(0), 1), ok(Begin(1), 2), ok(LockWrite(0, 0), 0), no(LockWrite(1, 0), 6)];
+    let held = [ok(Begin(0, 0), 1), ok(Begin(1, 0), 2), ok(LockWrite(0, 0), 0), no(LockWrite(1, 0), 6)];
     let kind = [poke(Area::Log, 0, 8), poke(Area::Counts, STABLE_COUNT, 1), no(Reopen, 14)];
     vec![
         example("1: image of 128 words", 64, &then([no(short, 1)])),
-        example("2: begin,0 while reopening", 64, &[ok(Reopen, 0), no(Begin(0), 2)]),
-        example("2: begin,0 after a cut", 64, &[cut(), no(Begin(0), 2)]),
-        example("3: begin,16", 64, &[no(Begin(16), 3)]),
+        example("2: begin,0 while reopening", 64, &[ok(Reopen, 0), no(Begin(0, 0), 2)]),
+        example("2: begin,0 after a cut", 64, &[cut(), no(Begin(0, 0), 2)]),
+        example("3: begin,16", 64, &[no(Begin(16, 0), 3)]),
         example("4: commit,3 first", 64, &[no(Commit(3), 4)]),
-        example("5: read,0,1 unlocked", 64, &[ok(Begin(0), 1), no(Read(0, 1), 5)]),
+        example("5: read,0,1 unlocked", 64, &[ok(Begin(0, 0), 1), no(Read(0, 1), 5)]),
         example("6: lockw,1,0 after lockw,0,0", 64, &held),
         example("7: set,0,1,0,9", 64, &then([no(SetWord(0, 1, 0, 9), 7)])),
         example("8: create,0,1", 64, &then([no(Create(0, 1), 8)])),
@@ -101,28 +103,28 @@ fn refusals() -> Vec<Example> {
         example("10: commit,0 after a set", 64, &then([ok(SetWord(0, 1, 4, 7), 2), no(Commit(0), 10)])),
         example("11: create with L = 3", 3, &then([no(Create(0, 2), 11)])),
         example("12: store,0 after create,0,2, unforced", 64, &then([ok(Create(0, 2), 2), no(StorePage(0), 12)])),
-        example("13: empty after begin", 64, &[ok(Begin(0), 1), no(EmptyLog, 13)]),
+        example("13: empty after begin", 64, &[ok(Begin(0, 0), 1), no(EmptyLog, 13)]),
         example("14: kind 8", 64, &kind),
     ]
 }
 
 fn room() -> Vec<Example> {
     vec![
-        example("room: L = 1 refuses the first begin", 1, &[no(Begin(0), 11)]),
-        example("room: L = 2 takes it", 2, &[ok(Begin(0), 1)]),
+        example("room: L = 1 refuses the first begin", 1, &[no(Begin(0, 0), 11)]),
+        example("room: L = 2 takes it", 2, &[ok(Begin(0, 0), 1)]),
         example("room: L = 4 takes a create after it", 4, &then([ok(Create(0, 2), 2)])),
     ]
 }
 
 fn bench() -> Example {
     let steps = [
-        ok(Begin(0), 1),
+        ok(Begin(0, 0), 1),
         ok(LockWrite(0, 0), 0),
         ok(Create(0, 2), 2),
         ok(SetWord(0, 1, 0, 2), 3),
         ok(Flush(0, 0), 0),
         ok(Commit(0), 4),
-        ok(Begin(1), 5),
+        ok(Begin(1, 0), 5),
         ok(LockWrite(1, 0), 0),
         ok(SetWord(1, 1, 0, 0), 6),
         ok(Flush(1, 0), 0),
@@ -152,13 +154,27 @@ fn made(pair: &mut Pair, Step { action, number, value, buffer, words }: &Step) -
     }
 }
 
+/// The steps, with all rights for client 0 after formatting and after each last reopening step (DECISIONS 95).
+fn granting(Example { name, pages, records, steps }: Example) -> Example {
+    let grants = || (0..pages as u32).map(|page| ok(Grant(0, page, WRITING), 0));
+    let last = ok(ReopenStep, pages as u32);
+    let is_last = |step: &Step| step.action == last.action && [step.number, step.value] == [0, last.value];
+    let with_grants = |step: Step| {
+        let reopened = is_last(&step);
+        [step].into_iter().chain(grants().filter(move |_| reopened))
+    };
+    let steps = grants().chain(steps.into_iter().flat_map(with_grants)).collect();
+    Example { name, pages, records, steps }
+}
+
 /// Every example of the calls.
 fn all() -> Vec<Example> {
     let own = [refusals(), room(), vec![bench()]];
     let requests = [chains::examples(), holders::examples(), marks::examples()];
     let passes = [passes::examples(), shares::examples(), readers::examples(), sweeps::examples()];
     let own_numbers = [own_sets::examples(), old_stores::examples()];
-    own.into_iter().chain(requests).chain(passes).chain(own_numbers).flatten().collect()
+    let granted = own.into_iter().chain(requests).chain(passes).chain(own_numbers).flatten().map(granting);
+    granted.chain(rights::examples()).chain(contractors::examples()).collect()
 }
 
 /// Runs every example on both sides: how many examples and calls, or what went wrong.

@@ -7,6 +7,7 @@ use model::layout::*;
 
 use crate::actions::*;
 use crate::crowd;
+use crate::grants::Giving;
 use crate::images::{self, Seen};
 use crate::random::Random;
 use crate::rubbish::odd_word;
@@ -25,6 +26,7 @@ pub struct Style {
     /// Transactions that run side by side, about.
     pub crowd: usize,
     pub habit: Habit,
+    pub giving: Giving,
     /// The list begins with areas so filled, and again now and then.
     pub filling: Option<Filling>,
 }
@@ -46,7 +48,10 @@ pub enum Habit {
 pub struct Generator {
     pub random: Random,
     pub style: Style,
-    hot: Vec<u32>,
+    /// The pages that the list is of.
+    pub hot: Vec<u32>,
+    /// Grants still to be made.
+    pub giving: Vec<Call>,
     /// The damaged word as it was, and after how many actions it comes back.
     restore: Option<(usize, Action)>,
     /// A call to be made so many times more.
@@ -65,8 +70,8 @@ impl Generator {
             hot.push(random.below(pages) as u32);
         }
         let burst = (Call::Force, 0);
-        let (asking, seen) = (Vec::new(), Seen::default());
-        Generator { random, style, hot, restore: None, burst, asking, seen, begun: false }
+        let (asking, giving, seen) = (Vec::new(), Vec::new(), Seen::default());
+        Generator { random, style, hot, giving, restore: None, burst, asking, seen, begun: false }
     }
 
     /// From a store that calls have led to: no first action that makes one.
@@ -119,12 +124,12 @@ impl Generator {
     }
 
     /// Areas so filled. Where they are linked, every object's chain is asked for then, in no order, and that of
-    /// two that are none; where pages are contended, locks.
+    /// two that are none; where pages are contended, locks and grants.
     fn fill(&mut self, filling: Filling, a: &Areas) -> Action {
         self.burst.1 = 0;
         self.asking = match filling {
             Filling::Linked => (0..=a.objects() + 1).map(Call::Chain).collect(),
-            Filling::Contended => (0..30).map(|_| self.any_lock(a)).collect(),
+            Filling::Contended => (0..40).map(|n| if n < 30 { self.any_lock(a) } else { self.grant(a) }).collect(),
             _ => Vec::new(),
         };
         Action::Fill(filling, self.random.next())
@@ -241,9 +246,10 @@ impl Generator {
         let field = number(r, 8);
         let word = any_word(object, pages, r);
         let mark = number(r, MARKS as usize);
-        let call = match r.below(42) {
+        let client = number(r, CLIENTS as usize);
+        let call = match r.below(46) {
             0 if r.percent(10) => Call::Format,
-            0..=2 => Call::Begin(t),
+            0..=2 => Call::Begin(t, client),
             3 | 4 => Call::Commit(t),
             5 | 6 => Call::Abort(t),
             7 | 8 => Call::LockRead(t, page),
@@ -262,7 +268,8 @@ impl Generator {
             34 | 35 => Call::Mark(t, mark),
             36 | 37 => Call::Back(t, mark),
             38 | 39 => return chain(object, r),
-            _ => return share(pages, r),
+            40 | 41 => return share(pages, r),
+            _ => Call::Grant(client, page, number(r, WRITING as usize + 1)),
         };
         call.into()
     }
@@ -270,6 +277,9 @@ impl Generator {
     /// A call that the state takes, mostly.
     fn led(&mut self, a: &Areas) -> Request {
         let active: Vec<u32> = (0..16).filter(|&t| a.work[ACTIVE] & bit(t) != 0).collect();
+        if let Some(call) = self.start_giving(a, &active) {
+            return call.into();
+        }
         let room = a.records() as isize - a.received_count() as isize - reserved(a) as isize;
         // one that tries goes back in a full log too
         let drained = if self.style.habit == Habit::Trying { 30 } else { 60 };
@@ -278,10 +288,10 @@ impl Generator {
         }
         let weights = self.weights(active.len(), a);
         match self.random.weighted(&weights) {
-            0 => Call::Begin(self.random.below(self.style.crowd + 1) as u32 % 16).into(),
+            0 => Call::Begin(self.random.below(self.style.crowd + 1) as u32 % 16, self.client(a)).into(),
             1 => {
                 let t = self.random.pick(&active).unwrap();
-                self.of_transaction(a, t)
+                self.end_barred(a, t).unwrap_or_else(|| self.of_transaction(a, t))
             }
             2 => self.force(a).into(),
             3 => Call::StorePage(self.page()).into(),
@@ -292,12 +302,13 @@ impl Generator {
             8 => self.drain(a, &active),
             9 => self.chain(a),
             10 => share(a.pages(), &mut self.random),
+            11 => self.grant(a).into(),
             _ => self.step().into(),
         }
     }
 
     /// How often each kind of call is made, with so many transactions and a pass or none.
-    fn weights(&self, active: usize, a: &Areas) -> [usize; 11] {
+    fn weights(&self, active: usize, a: &Areas) -> [usize; 12] {
         let pass = a.work[PHASE] != NO_PASS;
         let building = self.style.habit == Habit::Building;
         let step = match self.style.habit {
@@ -318,6 +329,7 @@ impl Generator {
             1,                                              // drain
             if building { 30 } else { 5 },                  // chain
             2,                                              // share
+            3,                                              // grant
         ]
     }
 
@@ -338,7 +350,7 @@ impl Generator {
         Call::PassStep
     }
 
-    fn page(&mut self) -> u32 {
+    pub fn page(&mut self) -> u32 {
         self.random.pick(&self.hot).unwrap()
     }
 
@@ -404,16 +416,6 @@ impl Generator {
             _ if self.random.percent(10) => Call::Back(t, self.any_mark()),
             Some(mark) => Call::Back(t, mark),
             None => Call::Mark(t, self.any_mark()),
-        }
-    }
-
-    /// Mostly of a page that no other holds.
-    fn lock_write(&mut self, a: &Areas, t: u32) -> Call {
-        let others = |p: u32| (a.get(Table::Writers, p as usize) | a.get(Table::Readers, p as usize)) & !bit(t);
-        let open: Vec<u32> = self.hot.iter().copied().filter(|&p| others(p) == 0).collect();
-        match self.random.pick(&open) {
-            Some(page) if self.random.percent(85) => Call::LockWrite(t, page),
-            _ => Call::LockWrite(t, self.page()),
         }
     }
 
@@ -639,8 +641,17 @@ pub fn size(random: &mut Random, large: bool) -> (usize, usize) {
 }
 
 /// Calls and cuts that most states take.
-pub const PLAIN: Style =
-    Style { cuts: 3, damage: 0, lengths: 4, wild: 20, own: 5, crowd: 2, habit: Habit::Mixed, filling: None };
+pub const PLAIN: Style = Style {
+    cuts: 3,
+    damage: 0,
+    lengths: 4,
+    wild: 20,
+    own: 5,
+    crowd: 2,
+    habit: Habit::Mixed,
+    giving: Giving::Several,
+    filling: None,
+};
 
 /// One of the habits by which transactions change much.
 pub fn old_style(style: Style, random: &mut Random) -> Style {
@@ -650,7 +661,8 @@ pub fn old_style(style: Style, random: &mut Random) -> Style {
 
 fn style(random: &mut Random, scope: Scope) -> Style {
     let crowd = random.pick(&[1, 1, 2, 2, 3, 3, 5, 16]).unwrap();
-    let plain = Style { wild: 40, crowd, ..PLAIN };
+    let giving = [Giving::Several, Giving::One, Giving::Nothing][random.weighted(&[50, 46, 4])];
+    let plain = Style { wild: 40, crowd, giving, ..PLAIN };
     let styles = match scope {
         Scope::Legal => [45, 20, 25, 35, 10, 40, 0, 0, 0, 0, 0, 0, 0, 0, 0],
         Scope::Old => [0, 0, 0, 0, 0, 0, 0, 0, 0, 0, 0, 0, 0, 0, 1],
@@ -662,7 +674,10 @@ fn style(random: &mut Random, scope: Scope) -> Style {
         1 => Style { cuts: 12, wild: 20, ..plain },
         2 => Style { cuts: 1, wild: 10, crowd: crowd.min(2), habit: Habit::Building, ..plain },
         3 => trying,
-        4 => Style { cuts: 1, wild: 10, crowd: crowd.min(2), habit: Habit::Crowding, ..plain },
+        4 => {
+            let crowd = crowd.min(2);
+            Style { cuts: 1, wild: 10, crowd, habit: Habit::Crowding, giving: Giving::One, ..plain }
+        }
         5 => Style { cuts: 2, wild: 15, crowd: crowd.clamp(2, 5), habit: Habit::Reading, ..plain },
         6 => Style { damage: 150, ..plain },
         7 => Style { wild: 250, lengths: 15, cuts: 1, damage: 80, filling: Some(Filling::Sound), ..plain },

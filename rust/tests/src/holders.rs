@@ -22,7 +22,7 @@ fn example(name: &'static str, steps: impl IntoIterator<Item = Step>) -> Example
 
 /// A new store in which these transactions, in this order, have begun.
 fn begun(transactions: &[u32]) -> impl Iterator<Item = Step> + '_ {
-    (1..).zip(transactions).map(|(count, &t)| ok(Begin(t), count))
+    (1..).zip(transactions).map(|(count, &t)| ok(Begin(t, 0), count))
 }
 
 /// A writer, and nobody else.
@@ -60,7 +60,7 @@ fn readers() -> Vec<Example> {
         held(LockWrite(5, 1), 11),
         ok(Abort(5), 5),
         ok(LockWrite(11, 1), 0),
-        ok(Begin(2), 6),
+        ok(Begin(2, 0), 6),
     ];
     let steps = begun(&[2, 11, 5]).chain(two).chain(three).chain(both_held(2, 1, 11));
     vec![example("6: readers", steps)]
@@ -79,7 +79,7 @@ fn other_refusals() -> Vec<Example> {
     ];
     let reopened = [ok(Reopen, 0), no(LockRead(6, 0), 2), no(LockWrite(6, 0), 2)];
     let steps = (0..=4).map(|page| ok(ReopenStep, page));
-    let again = [no(LockWrite(6, 0), 4), ok(Begin(6), 1), ok(LockWrite(6, 0), 0)];
+    let again = [no(LockWrite(6, 0), 4), ok(Begin(6, 0), 1), ok(LockWrite(6, 0), 0)];
     vec![
         example("3, 4 and 5: no holder is told", locked().chain(tests)),
         example("2: no holder is told", locked().chain(reopened).chain(steps).chain(again)),

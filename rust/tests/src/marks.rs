@@ -43,7 +43,7 @@ fn of_object(object: u32) -> usize {
 
 /// After these two, transaction 0 may change page 0.
 fn begun() -> [Step; 2] {
-    [ok(Begin(0), 1), ok(LockWrite(0, 0), 0)]
+    [ok(Begin(0, 0), 1), ok(LockWrite(0, 0), 0)]
 }
 
 /// Object 2 is made, then after mark 0 object 3, and both are linked.
@@ -92,7 +92,7 @@ fn layouts() -> Vec<Example> {
 /// "A transaction may set marks 0 to 3, and set one again".
 fn marks_set() -> Vec<Example> {
     let four = [
-        ok(Begin(0), 1),
+        ok(Begin(0, 0), 1),
         ok(Mark(0, 2), 0).orders([0, 0, 1, 0]),
         ok(Mark(0, 0), 0).orders([2, 0, 1, 0]),
         ok(Mark(0, 3), 0).orders([2, 0, 1, 3]),
@@ -101,8 +101,8 @@ fn marks_set() -> Vec<Example> {
         ok(Mark(0, 0), 0).orders([4, 3, 1, 2]),
     ];
     let others = [
-        ok(Begin(0), 1),
-        ok(Begin(15), 2),
+        ok(Begin(0, 0), 1),
+        ok(Begin(15, 0), 2),
         ok(Mark(15, 3), 0).has(Table::MarkOrder, mark_at(15, 3), &[1]).orders([0; 4]),
         no(Back(0, 3), 16),
         ok(Mark(0, 3), 0).orders([0, 0, 0, 1]),
@@ -113,7 +113,7 @@ fn marks_set() -> Vec<Example> {
 
 fn set_again() -> Vec<Example> {
     let last = [
-        ok(Begin(0), 1),
+        ok(Begin(0, 0), 1),
         ok(Mark(0, 0), 0),
         ok(Mark(0, 1), 0),
         ok(Mark(0, 0), 0),
@@ -137,7 +137,7 @@ fn set_again() -> Vec<Example> {
 fn marks_end() -> Vec<Example> {
     let set = || begun().into_iter().chain([ok(Create(0, 2), 2), ok(Mark(0, 0), 0), ok(Mark(0, 3), 0)]);
     let gone = |step: Step| step.has(Table::LeftAtMarks, 0, &[0; 4]).orders([0; 4]);
-    let again = |count| [no(Back(0, 0), 4), ok(Begin(0), count), no(Back(0, 0), 16), no(Back(0, 3), 16)];
+    let again = |count| [no(Back(0, 0), 4), ok(Begin(0, 0), count), no(Back(0, 0), 16), no(Back(0, 3), 16)];
     let committed = [ok(Flush(0, 0), 0), gone(ok(Commit(0), 3))];
     let reopened = [gone(ok(Reopen, 0)), no(Mark(0, 0), 2), no(Back(0, 0), 2)];
     let steps = (0..=PAGES as u32).map(|page| ok(ReopenStep, page));
@@ -173,7 +173,7 @@ fn going_back() -> Vec<Example> {
         ok(Back(0, 0), 0).appends(6, &[[6, 2, 0, 0, 0]]),
         ok(Back(0, 0), 0).appends(7, &[]),
     ];
-    let nothing = [ok(Begin(0), 1), ok(Mark(0, 1), 0), ok(Mark(0, 2), 0), ok(Back(0, 1), 0), ok(Commit(0), 2)];
+    let nothing = [ok(Begin(0, 0), 1), ok(Mark(0, 1), 0), ok(Mark(0, 2), 0), ok(Back(0, 1), 0), ok(Commit(0), 2)];
     vec![
         example("L3: newest first", begun().into_iter().chain(newest)),
         example("L3: those not yet undone", begun().into_iter().chain(stages)),
@@ -251,7 +251,7 @@ fn touched() -> Vec<Example> {
 
 /// "The reserve counts only records not undone, and an abort undoes only those." .. "the undoing uses the reserve."
 fn reserves() -> Vec<Example> {
-    let full = [no(Create(0, 4), 11), no(Begin(1), 11), gone_back(), no(Create(0, 4), 11), no(Begin(1), 11)];
+    let full = [no(Create(0, 4), 11), no(Begin(1, 0), 11), gone_back(), no(Create(0, 4), 11), no(Begin(1, 0), 11)];
     let one_more = [gone_back(), ok(Create(0, 4), 11), no(SetWord(0, 1, 4, 1), 11), ok(Abort(0), 14)];
     let aborted = [gone_back(), ok(Abort(0), 12).appends(10, &[[6, 2, 0, 0, 0], [5, 0, 0, 0, 0]])];
     let all = [
@@ -259,9 +259,9 @@ fn reserves() -> Vec<Example> {
         ok(Create(0, 2), 2),
         ok(SetWord(0, 1, 0, 2), 3),
         ok(SetWord(0, 1, 1, 2), 4),
-        no(Begin(1), 11),
+        no(Begin(1, 0), 11),
         ok(Back(0, 0), 0).appends(4, &[[3, 1, 1, 2, 0], [3, 1, 0, 2, 0], [6, 2, 0, 0, 0]]),
-        no(Begin(1), 11),
+        no(Begin(1, 0), 11),
         ok(Flush(0, 0), 0),
         ok(Commit(0), 8),
     ];
@@ -282,7 +282,7 @@ fn standing() -> impl Iterator<Item = Step> {
 /// "PRT entries, COT entries and locks are kept, none are added".
 fn kept() -> Vec<Example> {
     let tried = [
-        ok(Begin(0), 5),
+        ok(Begin(0, 0), 5),
         ok(LockWrite(0, 0), 0),
         ok(LockRead(0, 2), 0),
         ok(Read(0, 1), 2),
@@ -308,7 +308,7 @@ fn kept() -> Vec<Example> {
 /// Object 3 is tried in place of what stands, and flushed.
 fn replaced() -> impl Iterator<Item = Step> {
     let tried = [
-        ok(Begin(0), 5),
+        ok(Begin(0, 0), 5),
         ok(LockWrite(0, 0), 0),
         ok(SetWord(0, 1, 4, 1), 6),
         ok(Mark(0, 0), 0),
@@ -343,7 +343,7 @@ fn refusals() -> Vec<Example> {
     let unset = [
         no(Back(0, 0), 4),
         no(Mark(0, 0), 4),
-        ok(Begin(0), 1),
+        ok(Begin(0, 0), 1),
         no(Back(0, 0), 16),
         ok(Mark(0, 0), 0),
         no(Back(0, 1), 16),
@@ -353,8 +353,8 @@ fn refusals() -> Vec<Example> {
     let above = [
         no(Mark(0, 4), 3),
         no(Back(0, 4), 3),
-        ok(Begin(0), 1),
-        ok(Begin(15), 2),
+        ok(Begin(0, 0), 1),
+        ok(Begin(15, 0), 2),
         no(Mark(0, 4), 3),
         no(Back(0, 4), 3),
         no(Mark(15, 4), 3),
@@ -375,7 +375,7 @@ fn emptied() -> Vec<Example> {
     let empty = [
         ok(StorePage(0), 0).has(Table::Undoing, 6, &[1; 4]),
         ok(EmptyLog, 0).has(Table::Undoing, 0, &none),
-        ok(Begin(0), 1),
+        ok(Begin(0, 0), 1),
         ok(LockWrite(0, 0), 0),
     ];
     let sets = (2..=9).map(|count| ok(SetWord(0, 1, 4, count), count));
@@ -420,7 +420,7 @@ fn bounds_reached() -> Vec<Example> {
     let undone = [ok(Mark(0, 0), 0), ok(Create(0, 2), 2), ok(Back(0, 0), 0).has(Table::Undoing, 0, &[0, 0, 1, 0])];
     vec![
         example("L3: as many changes at a mark as L allows", begun().into_iter().chain(sets).chain(most)),
-        with_records("L3: four marks with L = 2", 2, [ok(Begin(0), 1)].into_iter().chain(four)),
+        with_records("L3: four marks with L = 2", 2, [ok(Begin(0, 0), 1)].into_iter().chain(four)),
         with_records("L3: going back with L = 4", 4, begun().into_iter().chain(undone).chain([ok(Abort(0), 4)])),
     ]
 }
@@ -435,7 +435,7 @@ fn odd_marks() -> Vec<Example> {
     let equal = [order(0, 2), order(1, 2), order(2, 3), left(1, 9), ok(Back(0, 0), 0).orders([2, 2, 0, 0])];
     let gaps = [order(0, 4), order(2, 4), ok(Mark(0, 1), 0).orders([4, 3, 4, 0])];
     let above = [order(0, 2), order(1, 4), order(2, 1), ok(Mark(0, 0), 0).orders([3, 3, 1, 0])];
-    let inactive = [order(0, 1), ok(Begin(0), 1).orders([1, 0, 0, 0]), ok(Back(0, 0), 0)];
+    let inactive = [order(0, 1), ok(Begin(0, 0), 1).orders([1, 0, 0, 0]), ok(Back(0, 0), 0)];
     vec![
         example("rubbish: a mark of more changes than are left", begun().chain(more)),
         example("rubbish: changes left at a mark that is not set", begun().chain(unset)),
@@ -458,7 +458,7 @@ fn undoing(record: usize) -> Step {
 /// Undoing words that no calls lead to.
 fn odd_undoing() -> Vec<Example> {
     let counts = |changes| ok(Mark(0, 0), 0).has(Table::LeftAtMarks, 0, &[changes]);
-    let at_begins = [ok(Begin(1), 5), undoing(0), undoing(4), counts(3)];
+    let at_begins = [ok(Begin(1, 0), 5), undoing(0), undoing(4), counts(3)];
     let at_a_commit = [poke(Area::Log, 6 * 3, 4), poke(Area::Log, 6 * 3 + 2, 0), undoing(3), counts(2)];
     let at_a_create = [undoing(3), counts(1), ok(Back(0, 0), 0).appends(4, &[])];
     let at_all = [undoing(1), undoing(2), undoing(3), counts(0), ok(Create(0, 4), 5), counts(1)];

@@ -25,7 +25,7 @@ fn valve(name: &'static str, steps: impl IntoIterator<Item = Step>) -> Example {
 
 /// Transaction 0 may change page 0, and knows what the root's word 0 names.
 fn begun(named: u32) -> [Step; 3] {
-    [ok(Begin(0), 1), ok(LockWrite(0, 0), 0), ok(Read(0, 1), named)]
+    [ok(Begin(0, 0), 1), ok(LockWrite(0, 0), 0), ok(Read(0, 1), named)]
 }
 
 /// .. of the valve.
@@ -63,7 +63,7 @@ fn note() -> Vec<Example> {
         ok(SetWord(0, 2, 0, 0), 2).appends(1, &[[3, 2, 0, 2, 0]]).at_object(Table::Pruned, 2, 1),
         own(2, 0, 18),
         ok(Abort(0), 4).appends(2, &[[3, 2, 0, 0, 2], [5, 0, 0, 0, 0]]).in_both(WORD, 2),
-        ok(Begin(0), 5).at_object(Table::Pruned, 2, 0),
+        ok(Begin(0, 0), 5).at_object(Table::Pruned, 2, 0),
     ];
     let again = forced(1..=5).chain(reopened(2)).chain(pass(&[1, 2], 0));
     vec![valve("L8: ones already stored may be overwritten, and undoing puts one back", then(steps).chain(again))]
@@ -76,7 +76,7 @@ fn reads() -> Vec<Example> {
         own(3, 1, 18),
         ok(SetWord(0, 3, 1, 2), 2),
     ];
-    let root = [ok(Begin(0), 1), ok(LockRead(0, 0), 0), ok(Read(0, 1), 1).shows([1, 2, 0, 0, 0, 0, 0, 0])];
+    let root = [ok(Begin(0, 0), 1), ok(LockRead(0, 0), 0), ok(Read(0, 1), 1).shows([1, 2, 0, 0, 0, 0, 0, 0])];
     vec![
         old("L8: .. are read", &[(1, &[2]), (2, &[2, 3, 2, 2]), (3, &[])], then(four)),
         old("L8: .. of the root", &[(1, &[1, 2]), (2, &[])], root),
@@ -102,7 +102,7 @@ fn passes() -> Vec<Example> {
     let freed = ok(PassStep, 3).in_both(0, 0b111).in_both(word_at(5, 0), 0).leaves(Area::Log, 0, &sweep);
     let gone = [no(Chain(5), 15), ok(PassStep, 0), ok(PassStep, 0), ok(PassStep, 0).rests()];
     let again = [
-        ok(Begin(0), 2),
+        ok(Begin(0, 0), 2),
         ok(LockWrite(0, 0), 0),
         ok(Create(0, 5), 3),
         ok(Read(0, 5), 0).shows([0; 8]),
@@ -142,7 +142,7 @@ fn overwritten() -> Vec<Example> {
         ok(Abort(0), 4).in_both(1, 1),
     ];
     let unknown =
-        [ok(Begin(0), 1), own(2, 0, 5), ok(LockWrite(0, 0), 0), own(2, 0, 7), ok(Read(0, 1), 2), own(2, 0, 18)];
+        [ok(Begin(0, 0), 1), own(2, 0, 5), ok(LockWrite(0, 0), 0), own(2, 0, 7), ok(Read(0, 1), 2), own(2, 0, 18)];
     vec![
         valve("L8: .. by another object", then(other)),
         valve("L8: .. while marking it turns grey", then(marking)),

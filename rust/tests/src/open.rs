@@ -74,7 +74,7 @@ fn opened(disk: &Disk) -> Result<Areas, NotHeld> {
     }
 }
 
-/// What an opened store answers to short buffers, a long image, a call after a cut and the reopening then; whether it is
+/// What an opened store answers to short buffers, a long image, calls after a cut and the reopening then; whether it is
 /// well formed, and its areas.
 fn tried(mut held: Held) -> (Vec<u32>, bool, Areas) {
     let mut answers = vec![
@@ -84,7 +84,7 @@ fn tried(mut held: Held) -> (Vec<u32>, bool, Areas) {
         held.flush(&[0; PAGE_WORDS + 1], 0, 0),
     ];
     held.cut();
-    answers.extend([held.begin(0), held.reopen()]);
+    answers.extend([held.begin(0, 0), held.grant(0, 0, 2), held.reopen()]);
     let numbers = answers.iter().map(|answer| answer.number).collect();
     (numbers, held.audit(), held.into_store().into_areas())
 }
@@ -93,7 +93,7 @@ fn tried(mut held: Held) -> (Vec<u32>, bool, Areas) {
 fn open(disk: &Disk) -> Result<Result<Areas, NotHeld>, String> {
     let told = Held::open(&disk.stored, &disk.stable, disk.records).map(tried);
     let expected = opened(disk);
-    if told != expected.clone().map(|areas| (vec![1, 1, 1, 1, 2, 0], true, areas)) {
+    if told != expected.clone().map(|areas| (vec![1, 1, 1, 1, 2, 2, 0], true, areas)) {
         return Err(format!("opened differently ({:?} and {:?})", told.err(), expected.err()));
     }
     Ok(expected)
@@ -120,6 +120,7 @@ fn go_on(areas: &Areas, random: &mut Random) -> Result<(Areas, u64), String> {
     pair.steps = Steps::reopened();
     pair.reads = Reads::reopened();
     pair.owns.reopened(areas);
+    pair.ledger.reopened(&*pair.left);
     let mut calls = 0;
     for _ in 0..random.between(20, 400) {
         let action = generator.next(&pair.areas());

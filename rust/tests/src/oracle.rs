@@ -7,8 +7,10 @@
 //! which docs/LAYOUT.md ends at 17 x P (DECISIONS 35). Others are those of document 02: the oracle is
 //! of document 01, where refusal 6 has the value 0 and there are no marks, whose words stay 0; where a
 //! page with any lock is skipped, so the model does likewise here; where an image must equal the
-//! received page, so that one which the model takes goes as that page; and where a set may write an
-//! object's own number, so that one which the model refuses with 18 is left out.
+//! received page, so that one which the model takes goes as that page; where a set may write an
+//! object's own number, so that one which the model refuses with 18 is left out; and where there are no
+//! clients, so that a begin goes without its client, a grant is made on the model alone, and a lock which
+//! the model refuses with 19 is left out. In areas that are filled every client has all rights.
 
 use std::fmt::Write as _;
 use std::io::Write as _;
@@ -91,10 +93,11 @@ impl Script {
         let mut buffer = [0; OBJECT_WORDS];
         let image = request.image(&model.areas.received, &model.areas.copies);
         let answer = model.perform(call, Lent { buffer: &mut buffer, image: &image });
-        if answer >> 32 == 18 {
+        if [18, 19].contains(&(answer >> 32)) || matches!(call, Call::Grant(..)) {
             return;
         }
         match call {
+            Call::Begin(t, _) => writeln!(self.input, "begin,{t}").unwrap(),
             Call::Read(t, object) => writeln!(self.input, "readw,{t},{object}").unwrap(),
             Call::Flush(t, page) => {
                 let taken = answer >> 32 == 0;
@@ -127,6 +130,9 @@ impl Script {
     fn poke(&mut self, model: &mut Model, area: Area, index: usize, value: u32) {
         let pages = model.areas.pages();
         model.areas.of_mut(area)[index] = value;
+        if area == Area::Work && index >= Table::LeftAtMarks.first(pages) {
+            return; // the oracle does not have these words
+        }
         let place = match area {
             Area::Stored => format!("S,{index}"),
             Area::Copies => format!("C,{index}"),
@@ -266,10 +272,11 @@ pub fn run(program: &str, seed: u64, calls: u64, scope: Scope) -> bool {
     true
 }
 
-/// Areas so filled, but for the words that the oracle does not have.
+/// Areas so filled, but for the words that the oracle does not have: no marks, and all rights.
 fn filled(filling: Filling, seed: u64, pages: usize, records: usize) -> Areas {
     let mut areas = fill(filling, seed, pages, records);
     areas.work[Table::LeftAtMarks.first(pages)..].fill(0);
+    areas.table(Table::Rights).fill(WRITING);
     areas
 }
 
@@ -279,6 +286,7 @@ fn sayable(action: Action, pages: usize) -> Option<Action> {
     match action.call() {
         Some(Call::Chain(_) | Call::Mark(..) | Call::Back(..) | Call::PassShare(_)) => return None,
         Some(call @ Call::Read(..)) => return Some(call.into()),
+        Some(Call::Begin(t, client)) => return Some(Call::Begin(t, client % CLIENTS).into()),
         _ => {}
     }
     Some(match action {

@@ -19,7 +19,7 @@ fn with_records(name: &'static str, records: usize, steps: impl IntoIterator<Ite
 /// Transaction 0 may change page 0, where it has made these objects.
 fn made(objects: &[u32]) -> impl Iterator<Item = Step> + '_ {
     let creates = (2..).zip(objects).map(|(count, &object)| ok(Create(0, object), count));
-    [ok(Begin(0), 1), ok(LockWrite(0, 0), 0)].into_iter().chain(creates)
+    [ok(Begin(0, 0), 1), ok(LockWrite(0, 0), 0)].into_iter().chain(creates)
 }
 
 /// A set of the object's own number, refused.
@@ -63,7 +63,7 @@ fn words() -> Vec<Example> {
         let count = 2 + u32::from(object != ROOT);
         let references = (0..4).map(move |field| own(0, object, field, 18));
         let data = (4..8).map(move |field| ok(SetWord(0, object, field, object), count + field - 4));
-        let begun = [ok(Begin(0), 1), ok(LockWrite(0, page), 0)];
+        let begun = [ok(Begin(0, 0), 1), ok(LockWrite(0, page), 0)];
         begun.into_iter().chain(created).chain(references).chain(data)
     };
     vec![
@@ -79,7 +79,7 @@ fn words() -> Vec<Example> {
 fn order() -> Vec<Example> {
     let early = [
         own(0, 1, 0, 4),
-        ok(Begin(0), 1),
+        ok(Begin(0, 0), 1),
         own(16, 1, 0, 3),
         own(0, 0, 0, 3),
         own(0, 65, 0, 3),
@@ -95,9 +95,9 @@ fn order() -> Vec<Example> {
         own(0, 1, 8, 3),
     ];
     let linked = [ok(SetWord(0, 1, 2, 2), 3), ok(Flush(0, 0), 0), ok(Commit(0), 4)];
-    let other = [ok(Begin(1), 5), ok(LockWrite(1, 0), 0), own(1, 2, 0, 7), own(1, 1, 0, 18), ok(Read(1, 1), 0)];
+    let other = [ok(Begin(1, 0), 5), ok(LockWrite(1, 0), 0), own(1, 2, 0, 7), own(1, 1, 0, 18), ok(Read(1, 1), 0)];
     let reopening =
-        [ok(Begin(0), 1), ok(LockWrite(0, 0), 0), ok(Reopen, 0), own(0, 1, 0, 2), cut(), own(0, 1, 0, 2)];
+        [ok(Begin(0, 0), 1), ok(LockWrite(0, 0), 0), ok(Reopen, 0), own(0, 1, 0, 2), cut(), own(0, 1, 0, 2)];
     let colour = Table::Colours.first(PAGES) + 9;
     let range = [poke(Area::Work, colour, 3), own(0, 1, 0, 1), poke(Area::Work, colour, 2), own(0, 1, 0, 18)];
     vec![
@@ -141,7 +141,7 @@ fn unchanged() -> Vec<Example> {
 
 /// .. nor does a pass that marks learn of it.
 fn while_marking() -> Vec<Example> {
-    let linked = [ok(SetWord(0, 1, 0, 2), 3), ok(Flush(0, 0), 0), ok(Commit(0), 4), ok(Begin(1), 5)];
+    let linked = [ok(SetWord(0, 1, 0, 2), 3), ok(Flush(0, 0), 0), ok(Commit(0), 4), ok(Begin(1, 0), 5)];
     let colours = |step: Step| step.has(Table::Colours, 0, &[GREY, WHITE]).has(Table::Pruned, 0, &[0, 0]);
     let marking = [
         ok(LockWrite(1, 0), 0),

@@ -38,7 +38,7 @@ pub fn row(pages: u32, objects: u32) -> Vec<Step> {
         |object| [ok(Create(0, object), 2 * object - 2), ok(SetWord(0, object - 1, 0, object), 2 * object - 1)];
     let flushes = (0..pages).map(|page| ok(Flush(0, page), 0));
     let links = (2..=objects).flat_map(link);
-    [ok(Begin(0), 1)]
+    [ok(Begin(0, 0), 1)]
         .into_iter()
         .chain(locks)
         .chain(links)
@@ -73,7 +73,7 @@ fn longest(name: &'static str, pages: u32) -> Example {
 fn calls_between() -> Vec<Example> {
     let marking = [
         start(),
-        ok(Begin(1), 5).stands(MARKING, 0, 0),
+        ok(Begin(1, 0), 5).stands(MARKING, 0, 0),
         ok(LockWrite(1, 0), 0),
         no(StartPass, 4).stands(MARKING, 0, 0),
         ok(Read(1, 1), 2),
@@ -91,7 +91,7 @@ fn calls_between() -> Vec<Example> {
         ok(Abort(1), 18).stands(MARKING, 0, 3),
         ok(Force, 1).stands(MARKING, 0, 3),
         ok(PassStep, 0).stands(SWEEPING, 0, 4),
-        ok(Begin(2), 19).stands(SWEEPING, 0, 4),
+        ok(Begin(2, 0), 19).stands(SWEEPING, 0, 4),
         ok(PassStep, 0).rests(),
     ];
     vec![example("L4: whatever calls come between", 1, row(1, 2).into_iter().chain(marking).chain(ended))]
@@ -112,12 +112,12 @@ fn ended_early() -> Vec<Example> {
 /// "A step refused for log room is not counted."
 fn log_room() -> Vec<Example> {
     let full = [
-        ok(Begin(0), 1),
+        ok(Begin(0, 0), 1),
         ok(LockWrite(0, 0), 0),
         ok(Create(0, 2), 2),
         ok(Flush(0, 0), 0),
         ok(Commit(0), 3),
-        ok(Begin(1), 4),
+        ok(Begin(1, 0), 4),
         ok(Abort(1), 5),
         start(),
         ok(PassStep, 1).stands(MARKING, 0, 1),
@@ -134,7 +134,7 @@ fn log_room() -> Vec<Example> {
 
 /// "The step number kept with the pass must equal the steps of document 01 taken since its start": skipped pages too.
 fn skipped() -> Vec<Example> {
-    let locked = [ok(Begin(0), 1), ok(LockWrite(0, 0), 0), ok(Begin(1), 2), ok(LockWrite(1, 1), 0)];
+    let locked = [ok(Begin(0, 0), 1), ok(LockWrite(0, 0), 0), ok(Begin(1, 0), 2), ok(LockWrite(1, 1), 0)];
     let steps = [
         start(),
         ok(PassStep, 1).stands(MARKING, 0, 1),

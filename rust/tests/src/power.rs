@@ -2,13 +2,14 @@
 
 use std::fmt::Write;
 
-use model::faults::{COLUMN_FAULTS, FAULTS, OWN_FAULTS, SWEEP_FAULTS, WHOLE_FAULTS};
+use model::faults::{COLUMN_FAULTS, FAULTS, OWN_FAULTS, RIGHT_FAULTS, SWEEP_FAULTS, WHOLE_FAULTS};
 use model::Fault;
 
 use crate::generate::Scope;
+use crate::gives::GIVING_FAULTS;
 use crate::run::{report, Tally, Watch};
 use crate::sides::Kind;
-use crate::{columns, examples, orders, random_lists, turns, whole};
+use crate::{bench, columns, examples, orders, random_lists, turns, whole};
 
 /// The side that a fault is held against.
 const UNCHANGED: Kind = Kind::Library;
@@ -22,8 +23,10 @@ fn noticed(fault: Fault, seed: u64, calls: u64, scope: Scope) -> Option<u64> {
 /// Prints how the named fault shows: the shrunk list and the least state, or the page area, or the page.
 pub fn show(name: &str, seed: u64, calls: u64) -> bool {
     std::panic::set_hook(Box::new(|_| {}));
-    let mut faults = FAULTS.iter().chain(SWEEP_FAULTS).chain(OWN_FAULTS).chain(WHOLE_FAULTS).chain(COLUMN_FAULTS);
-    let Some(named) = faults.find(|(fault, _)| format!("{fault:?}") == name) else {
+    let of_calls = FAULTS.iter().chain(SWEEP_FAULTS).chain(OWN_FAULTS).chain(RIGHT_FAULTS);
+    let Some(named) =
+        of_calls.chain(WHOLE_FAULTS).chain(COLUMN_FAULTS).find(|(fault, _)| format!("{fault:?}") == name)
+    else {
         println!("no fault is named {name}");
         return false;
     };
@@ -63,7 +66,7 @@ struct Table {
 }
 
 impl Table {
-    fn add(&mut self, fault: Fault, noticed: Option<u64>, cells: &[&str]) {
+    fn add(&mut self, fault: impl std::fmt::Debug, noticed: Option<u64>, cells: &[&str]) {
         self.missed += usize::from(noticed.is_none());
         let cells = cells.join(" | ");
         println!("{:>8}  {fault:?}: {cells}", shown(noticed));
@@ -78,10 +81,10 @@ fn by_lists(fault: Fault, seed: u64, calls: u64) -> (bool, [Option<u64>; 2]) {
     (by_example, [by_calls, noticed(fault, seed, calls, Scope::Small)])
 }
 
-/// The faults of the calls.
-fn calls_table(seed: u64, calls: u64) -> Table {
+/// Faults of the calls.
+fn calls_table(faults: &[(Fault, &str)], seed: u64, calls: u64) -> Table {
     let mut table = Table::default();
-    for &(fault, what) in FAULTS {
+    for &(fault, what) in faults {
         let (by_example, [by_calls, by_all]) = by_lists(fault, seed, calls);
         table.add(fault, by_all, &[what, yes(by_example), &shown(by_calls), &shown(by_all)]);
     }
@@ -132,12 +135,40 @@ const HELD: [Fault; 16] = [
     Fault::BackClearsOwn,
 ];
 
-/// The library beside the model, and the held forms made by a model with the fault: from old stores.
-fn held_table(seed: u64, calls: u64) -> Table {
+/// .. of clients and their rights.
+const HELD_RIGHTS: [Fault; 24] = [
+    Fault::RightsUntested,
+    Fault::WriteLockNeedsReading,
+    Fault::ReadLockNeedsWriting,
+    Fault::UpgradeUntested,
+    Fault::NineteenBeforeFour,
+    Fault::NineteenAfterSix,
+    Fault::NineteenTellsHolder,
+    Fault::MissingRightIsFive,
+    Fault::TransactionForClient,
+    Fault::RightOfNextPage,
+    Fault::RightsByClient,
+    Fault::RightsByEightClients,
+    Fault::ClientAfterFour,
+    Fault::AnyClientTaken,
+    Fault::BeginKeepsClient,
+    Fault::GrantWhileReopening,
+    Fault::GrantWhileActive,
+    Fault::GrantLooksAtInactive,
+    Fault::GrantPageAboveTaken,
+    Fault::GrantTellsRight,
+    Fault::GrantOnlyRaises,
+    Fault::ClientOutlivesCommit,
+    Fault::ClientOutlivesAbort,
+    Fault::ReadRightBeforeLock,
+];
+
+/// The library beside the model, and the held forms made by a model with the fault.
+fn held_table(faults: &[Fault], scope: Scope, seed: u64, calls: u64) -> Table {
     let mut table = Table::default();
-    for fault in HELD {
+    for &fault in faults {
         let sides = [UNCHANGED, Kind::Held(fault)];
-        let found = random_lists(sides, Watch::All, seed, calls, Scope::Old, &mut Tally::new());
+        let found = random_lists(sides, Watch::All, seed, calls, scope, &mut Tally::new());
         let found = found.map(|(_, calls)| calls);
         table.add(fault, found, &[&shown(found)]);
     }
@@ -194,6 +225,54 @@ const OWNS: [Fault; 10] = [
     Fault::BackPutsOwn,
 ];
 
+/// .. so that the ledger of clients, rights and locks alone can.
+const BY_LEDGER: [Fault; 44] = [
+    Fault::RightsUntested,
+    Fault::ReadLockUntested,
+    Fault::WriteLockUntested,
+    Fault::WriteLockNeedsReading,
+    Fault::ReadLockNeedsWriting,
+    Fault::ReadLockNeedsNoMore,
+    Fault::UpgradeUntested,
+    Fault::UpgradeNeedsReading,
+    Fault::NineteenAfterSix,
+    Fault::NineteenTellsHolder,
+    Fault::NineteenTellsClient,
+    Fault::MissingRightIsFive,
+    Fault::AllAreClientZero,
+    Fault::TransactionForClient,
+    Fault::RightOfNextClient,
+    Fault::RightOfNextPage,
+    Fault::RightOfAnyClient,
+    Fault::RightOnAnyPage,
+    Fault::RightsByFour,
+    Fault::BeginKeepsClient,
+    Fault::BeginNotesTransaction,
+    Fault::GrantIgnored,
+    Fault::GrantWhileActive,
+    Fault::GrantByTransactionNumber,
+    Fault::GrantMayRaise,
+    Fault::GrantMayLower,
+    Fault::GrantOfSameTaken,
+    Fault::GrantWhereUnlocked,
+    Fault::GrantOnlyRaises,
+    Fault::GrantOfNextClientToo,
+    Fault::GrantOfAllPages,
+    Fault::RightsOutliveReopening,
+    Fault::RightsEndWithCommit,
+    Fault::RightsEndWithEmptying,
+    Fault::FormatGivesClientZero,
+    Fault::ReopeningGivesClientZero,
+    Fault::ClientEndsWithMark,
+    Fault::ClientEndsWithBack,
+    Fault::ClientEndsWithFlush,
+    Fault::ReadShowsZeros,
+    Fault::WritesUnderReadLock,
+    Fault::WriterBesideReaders,
+    Fault::AbortKeepsReadLocks,
+    Fault::HolderHighest,
+];
+
 /// Faults in both sides, noticed by what is watched alone.
 fn watched_table(watch: Watch, faults: &[Fault], seed: u64, calls: u64) -> Table {
     let mut table = Table::default();
@@ -202,6 +281,16 @@ fn watched_table(watch: Watch, faults: &[Fault], seed: u64, calls: u64) -> Table
         let found = random_lists(both, watch, seed, calls, Scope::Legal, &mut Tally::new());
         let found = found.map(|(_, calls)| calls);
         table.add(fault, found, &[&shown(found)]);
+    }
+    table
+}
+
+/// What the bench program may do wrong with rights, noticed by its script of them.
+fn giving_table() -> Table {
+    let mut table = Table::default();
+    for (gives, what) in GIVING_FAULTS {
+        let noticed = bench::noticed(gives);
+        table.add(gives, noticed.then_some(1), &[what, yes(noticed)]);
     }
     table
 }
@@ -229,54 +318,47 @@ fn columns_table(seed: u64, pages: u64) -> Table {
     table
 }
 
-/// docs/TESTS.md with these tables.
-fn page(tables: &[Table; 9], seed: u64, calls: u64) -> String {
-    let [table, sweeps_table, own_table, held_table, tally_table, reads_table, owns_table, whole_table, columns_table] =
-        tables.each_ref().map(|table| table.lines.trim_end());
-    format!(
-        include_str!("tests.md"),
-        seed = seed,
-        calls = calls,
-        tenth = calls / 10,
-        faults = FAULTS.len(),
-        table = table,
-        sweep_faults = SWEEP_FAULTS.len(),
-        sweeps_table = sweeps_table,
-        own_faults = OWN_FAULTS.len(),
-        own_table = own_table,
-        held = HELD.len(),
-        held_table = held_table,
-        tallied = TALLIED.len(),
-        tally_table = tally_table,
-        read_again = READ_AGAIN.len(),
-        reads_table = reads_table,
-        owns = OWNS.len(),
-        owns_table = owns_table,
-        whole_faults = WHOLE_FAULTS.len(),
-        whole_table = whole_table,
-        column_faults = COLUMN_FAULTS.len(),
-        columns_table = columns_table
-    )
+/// docs/TESTS.md with these tables, by their names in the template.
+fn page(tables: &[(&str, usize, Table)], seed: u64, calls: u64) -> String {
+    let numbers = [("seed", seed), ("calls", calls), ("tenth", calls / 10)];
+    let mut page = include_str!("tests.md").to_string();
+    for (name, number) in numbers {
+        page = page.replace(&format!("{{{name}}}"), &number.to_string());
+    }
+    for (name, faults, table) in tables {
+        page = page.replace(&format!("{{{name}}}"), &faults.to_string());
+        page = page.replace(&format!("{{{name}_table}}"), table.lines.trim_end());
+    }
+    page
+}
+
+/// Each table with its name and how many faults it has.
+fn tables(seed: u64, calls: u64) -> Vec<(&'static str, usize, Table)> {
+    let tenth = calls / 10;
+    vec![
+        ("calls_faults", FAULTS.len(), calls_table(FAULTS, seed, calls)),
+        ("sweep_faults", SWEEP_FAULTS.len(), sweeps_table(seed, calls)),
+        ("own_faults", OWN_FAULTS.len(), own_table(seed, calls)),
+        ("held", HELD.len(), held_table(&HELD, Scope::Old, seed, tenth)),
+        ("right_faults", RIGHT_FAULTS.len(), calls_table(RIGHT_FAULTS, seed, calls)),
+        ("held_rights", HELD_RIGHTS.len(), held_table(&HELD_RIGHTS, Scope::Legal, seed, tenth)),
+        ("tallied", TALLIED.len(), watched_table(Watch::Steps, &TALLIED, seed, tenth)),
+        ("read_again", READ_AGAIN.len(), watched_table(Watch::Reads, &READ_AGAIN, seed, calls)),
+        ("owns", OWNS.len(), watched_table(Watch::Owns, &OWNS, seed, tenth)),
+        ("by_ledger", BY_LEDGER.len(), watched_table(Watch::Rights, &BY_LEDGER, seed, tenth)),
+        ("giving_faults", GIVING_FAULTS.len(), giving_table()),
+        ("whole_faults", WHOLE_FAULTS.len(), whole_table(seed, tenth)),
+        ("column_faults", COLUMN_FAULTS.len(), columns_table(seed, tenth)),
+    ]
 }
 
 pub fn run(seed: u64, calls: u64, write: Option<&str>) -> bool {
     std::panic::set_hook(Box::new(|_| {})); // a faulty model may panic: that is noticed too
-    let tenth = calls / 10;
-    let tables = [
-        calls_table(seed, calls),
-        sweeps_table(seed, calls),
-        own_table(seed, calls),
-        held_table(seed, tenth),
-        watched_table(Watch::Steps, &TALLIED, seed, tenth),
-        watched_table(Watch::Reads, &READ_AGAIN, seed, calls),
-        watched_table(Watch::Owns, &OWNS, seed, tenth),
-        whole_table(seed, tenth),
-        columns_table(seed, tenth),
-    ];
-    let same = orders::run(seed, tenth);
-    let missed: usize = tables.iter().map(|table| table.missed).sum();
-    let faults: usize =
-        [FAULTS, SWEEP_FAULTS, OWN_FAULTS, WHOLE_FAULTS, COLUMN_FAULTS].iter().map(|faults| faults.len()).sum();
+    let tables = tables(seed, calls);
+    let same = orders::run(seed, calls / 10);
+    let missed: usize = tables.iter().map(|(_, _, table)| table.missed).sum();
+    let of_model = [FAULTS, SWEEP_FAULTS, OWN_FAULTS, RIGHT_FAULTS, WHOLE_FAULTS, COLUMN_FAULTS];
+    let faults = of_model.iter().map(|faults| faults.len()).sum::<usize>() + GIVING_FAULTS.len();
     println!("power: {faults} faults against {}, {missed} not noticed", UNCHANGED.name());
     if let Some(path) = write {
         if let Err(error) = std::fs::write(path, page(&tables, seed, calls)) {

@@ -61,7 +61,7 @@ fn flush(t: u32, map: u32, words: &[(usize, u32)]) -> Request {
 fn litter(word: u32) -> Vec<Step> {
     let set = (word != 0).then(|| ok(SetWord(0, 2, 4, word), 3));
     let end = [ok(Flush(0, 0), 0), ok(Commit(0), 3 + u32::from(word != 0))];
-    [ok(Begin(0), 1), ok(LockWrite(0, 0), 0), ok(Create(0, 2), 2)].into_iter().chain(set).chain(end).collect()
+    [ok(Begin(0, 0), 1), ok(LockWrite(0, 0), 0), ok(Create(0, 2), 2)].into_iter().chain(set).chain(end).collect()
 }
 
 /// The root is scanned, the pass turns to sweeping, and the step of page 0 frees object 2.
@@ -71,14 +71,14 @@ fn swept() -> [Step; 4] {
 
 /// The note's list: 1 reads page 0, of which object 2 is swept, and locks it for writing.
 fn note() -> impl Iterator<Item = Step> {
-    let reader = [ok(Begin(1), 4), ok(LockRead(1, 0), 0), ok(Read(1, 1), 0)];
+    let reader = [ok(Begin(1, 0), 4), ok(LockRead(1, 0), 0), ok(Read(1, 1), 0)];
     litter(0).into_iter().chain(reader).chain(swept()).chain([ok(LockWrite(1, 0), 0)])
 }
 
 /// "a page is skipped only if someone has it write-locked".
 fn skipped() -> Vec<Example> {
     let sweep = [7, 0, 0, 0, 0, 0b10];
-    let reader = [ok(Begin(1), 4), ok(LockRead(1, 0), 0), ok(Read(1, 1), 0), ok(StartPass, 0), ok(PassStep, 1)];
+    let reader = [ok(Begin(1, 0), 4), ok(LockRead(1, 0), 0), ok(Read(1, 1), 0), ok(StartPass, 0), ok(PassStep, 1)];
     let freed = [
         ok(PassStep, 0),
         ok(PassStep, 1)
@@ -90,7 +90,7 @@ fn skipped() -> Vec<Example> {
         ok(Read(1, 1), 0).shows([0; 8]),
         ok(Commit(1), 6),
     ];
-    let writer = [ok(Begin(1), 4), ok(LockRead(1, 0), 0), ok(LockWrite(1, 0), 0), ok(StartPass, 0)];
+    let writer = [ok(Begin(1, 0), 4), ok(LockRead(1, 0), 0), ok(LockWrite(1, 0), 0), ok(StartPass, 0)];
     let left = [ok(PassStep, 1), ok(PassStep, 0), ok(PassStep, 0).in_both(0, 0b11)];
     vec![
         example("L6: a page with a reader is swept", litter(0).into_iter().chain(reader).chain(freed)),
@@ -103,7 +103,7 @@ fn skipped() -> Vec<Example> {
 
 /// Two readers keep the page; and a reader and a writer have a page each.
 fn several() -> Vec<Example> {
-    let both = [ok(Begin(1), 4), ok(Begin(2), 5), ok(LockRead(1, 0), 0), ok(LockRead(2, 0), 0)];
+    let both = [ok(Begin(1, 0), 4), ok(Begin(2, 0), 5), ok(LockRead(1, 0), 0), ok(LockRead(2, 0), 0)];
     let go_on = [
         ok(Read(1, 1), 0).at_page(Table::Readers, 0, bit(1) + bit(2)),
         ok(Read(2, 1), 0),
@@ -115,9 +115,9 @@ fn several() -> Vec<Example> {
         ok(flush(1, 0b11, &[]), 0).copied(0b11, &[]),
         ok(Commit(1), 9),
     ];
-    let two_pages = [ok(Begin(0), 1), ok(LockWrite(0, 0), 0), ok(LockWrite(0, 1), 0), ok(Create(0, 2), 2)];
+    let two_pages = [ok(Begin(0, 0), 1), ok(LockWrite(0, 0), 0), ok(LockWrite(0, 1), 0), ok(Create(0, 2), 2)];
     let littered = [ok(Create(0, 32), 3), ok(Flush(0, 0), 0), ok(Flush(0, 1), 0), ok(Commit(0), 4)];
-    let apart = [ok(Begin(1), 5), ok(LockRead(1, 0), 0), ok(Begin(2), 6), ok(LockWrite(2, 1), 0)];
+    let apart = [ok(Begin(1, 0), 5), ok(LockRead(1, 0), 0), ok(Begin(2, 0), 6), ok(LockWrite(2, 1), 0)];
     let last = |freed| [ok(PassStep, freed), ok(PassStep, 0), ok(PassStep, 0)];
     let again = [ok(Commit(2), 8), ok(StartPass, 0), ok(PassStep, 1), ok(PassStep, 0), ok(PassStep, 0)];
     vec![
@@ -163,7 +163,7 @@ fn images() -> Vec<Example> {
 fn zeros() -> Vec<Example> {
     let set = [ok(SetWord(1, 1, 4, 7), 6), no(flush(1, 0, &[]), 9), no(flush(1, 1, &[]), 9).copied(1, &[])];
     let sent = ok(flush(1, 0, &[(5, 7)]), 0).copied(1, &[(5, 7)]);
-    let free = [ok(Begin(0), 1), ok(LockWrite(0, 3), 0), ok(Request::flush(0, 3, Image::Noise(5)), 0)];
+    let free = [ok(Begin(0, 0), 1), ok(LockWrite(0, 3), 0), ok(Request::flush(0, 3, Image::Noise(5)), 0)];
     let any = free.into_iter().chain([ok(Commit(0), 2).leaves(Area::Copies, map_at(3), &[0; PAGE_WORDS])]);
     vec![
         example("9: an image of zeros, and an occupied slot with other words", note().chain(set).chain([sent])),
@@ -174,7 +174,7 @@ fn zeros() -> Vec<Example> {
 /// Each word of a page by itself.
 fn single_words() -> Vec<Example> {
     let changed = |at, word| Request::flush(0, 0, Image::Changed(at, word));
-    let begun = || [ok(Begin(0), 1), ok(LockWrite(0, 0), 0)].into_iter();
+    let begun = || [ok(Begin(0, 0), 1), ok(LockWrite(0, 0), 0)].into_iter();
     let creates = (2..=16).map(|object| ok(Create(0, object), object));
     let all: Vec<Step> = (1..PAGE_WORDS).map(|at| no(changed(at, 1), 9).copied(1, &[])).collect();
     let maps = [0, 1, 32768, 65535, 65536, u32::MAX].map(|map| ok(changed(0, map), 0).copied(65535, &[]));
@@ -190,7 +190,8 @@ fn single_words() -> Vec<Example> {
 
 /// What is occupied in the received page counts, not what the copy has.
 fn by_received() -> Vec<Example> {
-    let begun = || [ok(Begin(0), 1), ok(LockWrite(0, 0), 0), ok(Mark(0, 0), 0), ok(Create(0, 2), 2)].into_iter();
+    let begun =
+        || [ok(Begin(0, 0), 1), ok(LockWrite(0, 0), 0), ok(Mark(0, 0), 0), ok(Create(0, 2), 2)].into_iter();
     let unflushed = [
         ok(SetWord(0, 2, 7, 9), 3),
         no(flush(0, 1, &[]), 9),
@@ -215,7 +216,7 @@ fn order() -> Vec<Example> {
     let wrong = |t, page| Request::flush(t, page, Image::Noise(7));
     let short = |t| Request::flush(t, 0, Image::Long(128));
     let steps = [
-        ok(Begin(0), 1),
+        ok(Begin(0, 0), 1),
         no(wrong(16, 0), 3),
         no(wrong(0, 4), 3),
         no(wrong(1, 0), 4),
@@ -234,7 +235,7 @@ fn order() -> Vec<Example> {
 
 /// "A tablet may then flush an image that still shows a swept slot": the slot does not come back.
 fn stays_swept() -> Vec<Example> {
-    let read = [ok(Begin(1), 5), ok(LockRead(1, 0), 0), ok(Read(1, 1), 0)];
+    let read = [ok(Begin(1, 0), 5), ok(LockRead(1, 0), 0), ok(Read(1, 1), 0)];
     let stale = flush(1, 0b11, &[(5, 6), (13, 77)]);
     let sent =
         [ok(LockWrite(1, 0), 0), ok(SetWord(1, 1, 4, 6), 7), ok(stale, 0).copied(1, &[(5, 6)]), ok(Commit(1), 8)];
@@ -247,7 +248,7 @@ fn stays_swept() -> Vec<Example> {
     };
     let again = || {
         let created =
-            [ok(Begin(2), 1), ok(LockWrite(2, 0), 0), ok(Create(2, 2), 2), ok(Read(2, 2), 0).shows([0; 8])];
+            [ok(Begin(2, 0), 1), ok(LockWrite(2, 0), 0), ok(Create(2, 2), 2), ok(Read(2, 2), 0).shows([0; 8])];
         [no(Chain(2), 15)].into_iter().chain(created)
     };
     let emptied = [stored.clone(), ok(EmptyLog, 0)];
@@ -265,7 +266,7 @@ fn stays_swept() -> Vec<Example> {
 fn safe() -> Vec<Example> {
     let words = [0, 0, 0, 0, 8, 0, 0, 0];
     let made = [
-        ok(Begin(0), 1),
+        ok(Begin(0, 0), 1),
         ok(LockWrite(0, 0), 0),
         ok(LockWrite(0, 1), 0),
         ok(Create(0, 17), 2),
@@ -275,7 +276,7 @@ fn safe() -> Vec<Example> {
         ok(Flush(0, 1), 0),
         ok(Commit(0), 5),
     ];
-    let read = [ok(Begin(1), 6), ok(LockRead(1, 0), 0), ok(Read(1, 1), 17), ok(LockRead(1, 1), 0)];
+    let read = [ok(Begin(1, 0), 6), ok(LockRead(1, 0), 0), ok(Read(1, 1), 17), ok(LockRead(1, 1), 0)];
     let unlinked = [
         ok(Read(1, 17), 0).shows(words),
         ok(LockWrite(1, 0), 0),
@@ -294,7 +295,7 @@ fn safe() -> Vec<Example> {
 
 /// A page that is read needs room for its sweep record.
 fn room() -> Vec<Example> {
-    let full = [ok(Begin(1), 4), ok(LockRead(1, 0), 0), ok(StartPass, 0), ok(PassStep, 1), ok(PassStep, 0)];
+    let full = [ok(Begin(1, 0), 4), ok(LockRead(1, 0), 0), ok(StartPass, 0), ok(PassStep, 1), ok(PassStep, 0)];
     let refused = [no(PassStep, 11).in_both(0, 0b11), ok(Commit(1), 5), no(PassStep, 11)];
     vec![with_records(
         "11: a page that is read, in a full log",

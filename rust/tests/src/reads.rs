@@ -52,7 +52,7 @@ impl Reads {
         match accepted {
             _ if *action == Action::Cut => shown.clear(),
             Some(Call::Reopen) => shown.clear(),
-            Some(Call::Begin(t) | Call::Commit(t) | Call::Abort(t) | Call::Back(t, _)) => {
+            Some(Call::Begin(t, _) | Call::Commit(t) | Call::Abort(t) | Call::Back(t, _)) => {
                 shown.retain(|&(of, _), _| of != t);
             }
             Some(Call::Create(t, object)) => {

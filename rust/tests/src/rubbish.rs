@@ -117,6 +117,16 @@ fn sound(areas: &mut Areas, random: &mut Random) {
     sound_log(areas, random);
     sound_work(areas, random);
     single_holders(areas, random);
+    if random.percent(if areas.records() == 1 { 25 } else { 4 }) {
+        above_bound(areas, random);
+    }
+}
+
+/// One client or right is above its bound.
+fn above_bound(areas: &mut Areas, random: &mut Random) {
+    let table = random.pick(&[Table::Clients, Table::Rights]).unwrap();
+    let (at, most) = (random.below(table.len(areas.pages(), areas.records())), table.largest(areas.records()));
+    areas.table(table)[at] = random.pick(&[most + 1, most + 1, most + 2, 8, u32::MAX]).unwrap();
 }
 
 /// The copies linked, now and then with an unsound word; the received pages alike or not.
@@ -133,10 +143,12 @@ fn linked(areas: &mut Areas, random: &mut Random) {
     }
 }
 
-/// Most transactions are active, and a few, active or not, have locks on each page.
+/// Most transactions are active, or next to none, and a few, active or not, have locks on each page.
 fn contended(areas: &mut Areas, random: &mut Random) {
     sound(areas, random);
-    areas.work[ACTIVE] = 0xffff & !mask(random, 4);
+    let [one, other] = [0; 2].map(|_| bit(random.below(16) as u32));
+    let most = 0xffff & !mask(random, 4);
+    areas.work[ACTIVE] = random.pick(&[one, one | other, most, most, most]).unwrap();
     (0..areas.pages()).for_each(|page| several_holders(areas, page, random));
 }
 
@@ -223,12 +235,15 @@ fn sound_work(areas: &mut Areas, random: &mut Random) {
     areas.work[REOPENING] = if random.percent(90) { 2 } else { 1 };
     let thin = random.pick(&thins).unwrap();
     areas.work[ACTIVE] = mask(random, thin) & among;
+    let rights = rights(random);
     for table in TABLES {
         let thin = random.pick(&thins).unwrap();
         let zero = random.percent(25);
         for at in table.range(pages, records) {
             areas.work[at] = match table {
+                Table::Rights => random.pick(&rights).unwrap(),
                 _ if zero => 0,
+                Table::Clients => random.below(table.largest(records) as usize + 1) as u32,
                 Table::Colours => random.below(3) as u32,
                 Table::LeftAtMarks => changes_at_mark(records, random),
                 Table::MarkOrder => random.below(table.largest(records) as usize + 1) as u32,
@@ -237,6 +252,17 @@ fn sound_work(areas: &mut Areas, random: &mut Random) {
                 _ => mask(random, thin) & among,
             };
         }
+    }
+}
+
+/// What clients have: mostly much, so that locks are granted.
+fn rights(random: &mut Random) -> Vec<u32> {
+    match random.below(8) {
+        0 => vec![NOTHING],
+        1 => vec![NOTHING, READING],
+        2 | 3 => vec![NOTHING, READING, WRITING],
+        4 => vec![WRITING],
+        _ => vec![WRITING, WRITING, WRITING, WRITING, READING, NOTHING],
     }
 }
 

@@ -1,7 +1,7 @@
 //! Runs actions on two sides and compares every answer and every lent word after each; shrinks a
 //! list on which they differ. Beside the library's calls their held forms are made; the steps of its
-//! passes are tallied, what its transactions read is held to what they read before, and its pages to
-//! the own numbers that they began with.
+//! passes are tallied, what its transactions read is held to what they read before, its pages to the own
+//! numbers that they began with, and locks, reads and pages to the rights that were given.
 
 use std::panic::{catch_unwind, AssertUnwindSafe};
 
@@ -10,6 +10,7 @@ use model::layout::*;
 use model::{Fault, Model};
 
 use crate::actions::*;
+use crate::ledger::Ledger;
 use crate::owns::Owns;
 use crate::reads::Reads;
 use crate::rubbish::fill;
@@ -23,6 +24,7 @@ pub enum Watch {
     Steps,
     Reads,
     Owns,
+    Rights,
 }
 
 pub struct Pair {
@@ -40,6 +42,8 @@ pub struct Pair {
     pub reads: Reads,
     /// Of its own numbers.
     pub owns: Owns,
+    /// Of clients and their rights.
+    pub ledger: Ledger,
     pub watch: Watch,
     /// Flushes that it took, of images that were not the received page.
     pub unlike_flushes: u64,
@@ -48,7 +52,7 @@ pub struct Pair {
 }
 
 /// Answer numbers: 0 and the refusals.
-const NUMBERS: usize = 19;
+const NUMBERS: usize = 20;
 
 /// The answers that a run saw, by call and answer number (the last for others), and what it reached.
 #[derive(Clone, Default)]
@@ -66,6 +70,8 @@ pub struct Tally {
     pub reads_again: u64,
     /// Own numbers overwritten, put back, reopened and swept.
     pub owns: [u64; 4],
+    /// Locks refused for a right, reads, and calls that were not to change a page, all held to the ledger.
+    pub rights: [u64; 3],
 }
 
 /// Who reads the page that a sweeping step would meet, if the pass sweeps.
@@ -89,6 +95,8 @@ impl Tally {
         let Owns { overwritten, put_back, reopened, swept, .. } = pair.owns;
         let counted = [overwritten, put_back, reopened, swept];
         self.owns.iter_mut().zip(counted).for_each(|(all, more)| *all += more);
+        let Ledger { refused, reads, spared, .. } = pair.ledger;
+        self.rights.iter_mut().zip([refused, reads, spared]).for_each(|(all, more)| *all += more);
     }
 
     /// An action and its answer, and who read the page that a sweeping step met, where the pass swept.
@@ -133,6 +141,10 @@ impl Tally {
         println!(
             "own numbers: {overwritten} overwritten, {put_back} put back, {reopened} reopened, {swept} swept"
         );
+        let [refused, reads, spared] = self.rights;
+        println!(
+            "by the ledger of rights: {refused} answers 19, {reads} reads, {spared} calls that could not write every page"
+        );
     }
 }
 
@@ -165,6 +177,7 @@ impl Pair {
             steps: Steps::default(),
             reads: Reads::default(),
             owns: Owns::default(),
+            ledger: Ledger::default(),
             watch: Watch::All,
             unlike_flushes: 0,
             pages,
@@ -185,11 +198,11 @@ impl Pair {
     }
 
     /// Does the action on both sides: the left side's answer, or what differs, or what does not hold of its steps, its
-    /// reads or its own numbers.
+    /// reads, its own numbers or its clients' rights.
     pub fn step(&mut self, action: &Action) -> Result<u64, String> {
         let answer = self.act(action)?;
         let watched = |watch| [Watch::All, watch].contains(&self.watch);
-        let [steps, reads, owns] = [Watch::Steps, Watch::Reads, Watch::Owns].map(watched);
+        let [steps, reads, owns, rights] = [Watch::Steps, Watch::Reads, Watch::Owns, Watch::Rights].map(watched);
         if steps {
             self.steps.after(action, answer, &mut *self.left)?;
         }
@@ -198,6 +211,9 @@ impl Pair {
         }
         if owns {
             self.owns.after(action, answer, &*self.left)?;
+        }
+        if rights {
+            self.ledger.after(action, answer, &self.buffer, &*self.left)?;
         }
         Ok(answer)
     }
@@ -249,6 +265,7 @@ impl Pair {
         self.steps = Steps::default();
         self.reads = Reads::default();
         self.owns.forget();
+        self.ledger.forget();
         for side in self.sides() {
             AREAS.iter().for_each(|&area| side.area_mut(area).clone_from(areas.of(area)));
         }

@@ -77,7 +77,7 @@ fn spread(name: &'static str, [pages, objects]: [u32; 2], commits: u32) -> Examp
     steps.extend([share(commits, [whole, rest]), start()]);
     for commit in 0..commits {
         let count = 2 * (objects + commit);
-        steps.extend([ok(Begin(3), count + 1), ok(Commit(3), count + 2)]);
+        steps.extend([ok(Begin(3, 0), count + 1), ok(Commit(3), count + 2)]);
         let owed = whole + u32::from(commit < rest);
         steps.extend((0..owed).map(|_| left.next().unwrap_or_else(|| no(PassStep, 4).rests())));
     }

@@ -31,12 +31,12 @@ fn litter(objects: &[u32]) -> Vec<Step> {
 fn litter_of(page: u32, records: u32, objects: &[u32]) -> Vec<Step> {
     let creates = (records + 2..).zip(objects).map(|(count, &object)| ok(Create(0, object), count));
     let end = [ok(Flush(0, page), 0), ok(Commit(0), records + 2 + objects.len() as u32)];
-    [ok(Begin(0), records + 1), ok(LockWrite(0, page), 0)].into_iter().chain(creates).chain(end).collect()
+    [ok(Begin(0, 0), records + 1), ok(LockWrite(0, page), 0)].into_iter().chain(creates).chain(end).collect()
 }
 
 /// A transaction that changes nothing, from the record with this number on.
 fn idle(record: u32) -> [Step; 2] {
-    [ok(Begin(1), record), ok(Abort(1), record + 1)]
+    [ok(Begin(1, 0), record), ok(Abort(1), record + 1)]
 }
 
 /// A pass up to its sweep of page 0: the root is scanned, and the next step turns.
@@ -70,7 +70,7 @@ fn nothing_to_free() -> Vec<Example> {
     let kept = || ok(PassStep, 0).rests().in_both(0, 0b10001).received(3);
     let freed = ok(PassStep, 2).rests().in_both(0, 1).swept(5, 0, 0b1_0001_0000);
     let grey = all(Table::Colours, 1, 5..=5, GREY);
-    let root = [ok(PassStep, 1).rests().in_both(0, 0b10000).swept(4, 0, 1), no(Begin(1), 1)];
+    let root = [ok(PassStep, 1).rests().in_both(0, 0b10000).swept(4, 0, 1), no(Begin(1, 0), 1)];
     let white_root = all(Table::Colours, 1, 1..=1, WHITE).chain(black(1, 5..=5));
     vec![
         swept_once("L7: white slots that are occupied", 64, litter(&[5, 9]), [], [freed]),
@@ -87,7 +87,8 @@ fn created() -> Vec<Example> {
         let at = Table::Created.first(1) + 4;
         ok(PassStep, 1).rests().in_both(0, 0b10001).swept(count, 0, 0b100000).leaves(Area::Work, at, &[word])
     };
-    let new = [ok(Begin(1), 4), ok(LockWrite(1, 0), 0), ok(Create(1, 5), 5), ok(Flush(1, 0), 0), ok(Commit(1), 6)];
+    let new =
+        [ok(Begin(1, 0), 4), ok(LockWrite(1, 0), 0), ok(Create(1, 5), 5), ok(Flush(1, 0), 0), ok(Commit(1), 6)];
     let [start, scan, turn] = to_sweep();
     let flagged = litter(&[6]).into_iter().chain([start]).chain(new).chain([scan, turn, kept(7, FLAG)]);
     let next_pass = to_sweep().into_iter().chain([ok(PassStep, 1).rests().in_both(0, 1).swept(8, 0, 0b10000)]);
@@ -101,7 +102,7 @@ fn created() -> Vec<Example> {
 
 /// "then the lock": before the room, and after what is told from the tables.
 fn locked() -> Vec<Example> {
-    let begun = || litter(&[5]).into_iter().chain([ok(Begin(1), 4)]);
+    let begun = || litter(&[5]).into_iter().chain([ok(Begin(1, 0), 4)]);
     let writer = || begun().chain([ok(LockWrite(1, 0), 0)]).collect();
     let reader = begun().chain([ok(LockRead(1, 0), 0)]).collect();
     let kept = || ok(PassStep, 0).rests().in_both(0, 0b10001).received(4);
@@ -140,7 +141,7 @@ fn room() -> Vec<Example> {
 /// locked, nothing is there in page 2, and the log is full.
 fn early_ways() -> Vec<Example> {
     let idles = (0..13).flat_map(|i| idle(37 + 2 * i));
-    let locked = [ok(Begin(2), 63), ok(LockWrite(2, 1), 0), start()];
+    let locked = [ok(Begin(2, 0), 63), ok(LockWrite(2, 1), 0), start()];
     let kept = ok(PassStep, 0).rests().received(63).in_both(map_at(0), 65535).in_both(map_at(1), 0b11);
     let ways = [ok(PassStep, 0).stands(SWEEPING, 1, 18), ok(PassStep, 0).stands(SWEEPING, 2, 19), kept];
     let unlocked = [ok(Commit(2), 64), start()];
@@ -166,7 +167,7 @@ fn last_page() -> Vec<Example> {
         example(name, 2, before.into_iter().chain(to_sweep()).chain([first]).chain(pokes).chain([step]))
     };
     let littered = || litter_of(1, 0, &[17, 18]);
-    let writer = littered().into_iter().chain([ok(Begin(1), 5), ok(LockWrite(1, 1), 0)]).collect();
+    let writer = littered().into_iter().chain([ok(Begin(1, 0), 5), ok(LockWrite(1, 1), 0)]).collect();
     let kept = |records| ok(PassStep, 0).rests().in_both(map_at(1), 0b11).received(records);
     let empty = ok(PassStep, 0).rests().in_both(map_at(1), 0).received(0);
     let freed = ok(PassStep, 2).rests().in_both(map_at(1), 0).swept(5, 1, 0b11);
@@ -228,7 +229,7 @@ fn unsound() -> Vec<Example> {
         let refused = || no(PassStep, 1).stands(SWEEPING, 0, 2);
         [poke(area, 9, 7), refused(), poke(area, 9, 0), ok(PassStep, 0).rests()]
     };
-    let writer = vec![ok(Begin(1), 1), ok(LockWrite(1, 0), 0)];
+    let writer = vec![ok(Begin(1, 0), 1), ok(LockWrite(1, 0), 0)];
     vec![
         swept_once(
             "1: nothing to free, and the copy is unsound",

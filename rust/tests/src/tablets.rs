@@ -4,6 +4,7 @@
 use calls::Call;
 use model::layout::*;
 
+use crate::grants::right_of;
 use crate::random::Random;
 
 /// A reference to an object on another page: object, field, target.
@@ -38,6 +39,10 @@ impl View<'_> {
         self.has(Table::Writers, page_of(object))
     }
 
+    fn may(&self, page: usize, right: u32) -> bool {
+        right_of(self.a, self.t, page as u32) >= right
+    }
+
     /// Nobody else has the page.
     fn alone(&self, page: usize) -> bool {
         (self.a.get(Table::Readers, page) | self.a.get(Table::Writers, page)) & !bit(self.t) == 0
@@ -60,14 +65,17 @@ impl View<'_> {
 
     /// For reading, a page of something known.
     fn lock(&self, r: &mut Random) -> Option<Call> {
-        let closed = self.known_where(|object| !self.reads(object) && !self.writes(object));
+        let closed = self.known_where(|object| {
+            !self.reads(object) && !self.writes(object) && self.may(page_of(object), READING)
+        });
         r.pick(&closed).map(|object| Call::LockRead(self.t, page_of(object) as u32))
     }
 
     /// For writing, a page that it reads alone and that names something on another page.
     fn upgrade(&self, r: &mut Random) -> Option<Call> {
         let mut links = self.links();
-        links.retain(|&(from, ..)| self.reads(from) && self.alone(page_of(from)));
+        let may_write = |page| self.alone(page) && self.may(page, WRITING);
+        links.retain(|&(from, ..)| self.reads(from) && may_write(page_of(from)));
         r.pick(&links).map(|(from, ..)| Call::LockWrite(self.t, page_of(from) as u32))
     }
 
@@ -122,7 +130,8 @@ pub fn build(a: &Areas, t: u32, other: u32, r: &mut Random) -> Option<Call> {
     let view = View::new(a, t);
     let mut pages = [0, other].into_iter();
     if let Some(page) = pages.find(|&page| !view.has(Table::Writers, page as usize)) {
-        return view.alone(page as usize).then_some(Call::LockWrite(t, page));
+        let may_write = view.alone(page as usize) && view.may(page as usize, WRITING);
+        return may_write.then_some(Call::LockWrite(t, page));
     }
     let place = object_at(r.pick(&[0, other, other]).unwrap() as usize, r.below(SLOTS));
     let made = match occupied(&a.received, place) {

@@ -1,9 +1,8 @@
 use Rattle.acceptance.specs.Entered.{formed-sized, open-formed}
 use Rattle.areas.specs.Answers.{verdict}
-use Rattle.areas.specs.Areas.{areas}
 use Rattle.areas.specs.Entry.{called-closed, called-refused, called-passed}
 use Rattle.calls.specs.Locks.{callLockRead}
-use Rattle.locks.specs.Checks.{lock-read-as, lock-passed}
+use Rattle.locks.specs.Checks.{open-clients, lock-read-as, lock-passed}
 use borrow.Author.Tests.{not-true, not-false, eqb-true}
 use mathlib.Core.Path.{sym, _∙_, ap}
 use native.Mathlib.Omega.{arith}
@@ -19,7 +18,7 @@ unfolding callLockRead
 returns c = called-closed _ _ _ _ _ (c .before .before .before .before .before .before .before .before .before .pre) (sym (c .before .is-open .ensures) ∙ not-true _ (c .if1 .taken))
 
 lock-check-requires : tie.Need-lock-check-requires
-lock-check-requires c κs = open-formed _ _ (c .before .before .before .before .before .before .before .before .before .before .pre) (eqb-true _ _ (sym (c .before .before .is-open .ensures) ∙ not-false _ (c .before .if1 .left))) .sized .tables
+lock-check-requires c κs = let o = open-formed _ _ (c .before .before .before .before .before .before .before .before .before .before .pre) (eqb-true _ _ (sym (c .before .before .is-open .ensures) ∙ not-false _ (c .before .if1 .left))) in let z = o .sized in ((z .top, omega arith), open-clients _ _ o)
 
 let-read-requires : tie.Need-let-read-requires
 let-read-requires c κs = let h = formed-sized _ _ (c .before .before .before .before .before .before .before .before .before .before .before .before .before .before .pre) in let f = lock-passed _ _ _ _ _ (sym (c .before .before .before .lock-check .ensures) ∙ c .before .enum-told .given .1) in (h .tables, f .1, omega arith)

@@ -4,7 +4,7 @@ use Rattle.transactions.proofs.ending.end_tables.Statement.{statement}
 use Rattle.transactions.proofs.ending.end_tables.Tie as tie
 
 returns : tie.Need-returns
-returns c = tables-ended (c .before .before .before .before .before .before .before .before .before .before .before .before .before .before .before .before .before .before .before .before .args .work .now) _ _ (c .before .before .before .before .before .before .before .before .before .before .before .before .before .before .before .before .before .before .readers-at .ensures) (c .before .before .before .before .before .before .before .before .before .before .before .before .before .before .before .before .before .pruned-at .ensures) (c .before .before .before .before .before .before .before .before .before .before .before .before .before .before .before .before .colour-at .ensures) (c .before .before .before .before .before .before .before .before .before .before .before .before .before .before .lose .ensures) (c .before .before .before .before .before .before .before .before .before .before .leave-all .ensures) (c .before .before .before .before .before .before .end-entries .ensures) (c .before .before .end-marks .ensures)
+returns c = tables-ended (c .before .before .before .before .before .before .before .before .before .before .before .before .before .before .before .before .before .before .before .before .before .before .before .before .args .work .now) _ _ (c .before .before .before .before .before .before .before .before .before .before .before .before .before .before .before .before .before .before .before .before .before .before .readers-at .ensures) (c .before .before .before .before .before .before .before .before .before .before .before .before .before .before .before .before .before .before .before .before .before .pruned-at .ensures) (c .before .before .before .before .before .before .before .before .before .before .before .before .before .before .before .before .before .before .before .before .colour-at .ensures) (c .before .before .before .before .before .before .before .before .before .before .before .before .before .before .before .before .before .before .lose .ensures) (c .before .before .before .before .before .before .before .before .before .before .before .before .before .before .leave-all .ensures) (c .before .before .before .before .before .before .before .before .before .before .end-entries .ensures) (c .before .before .before .before .before .before .end-marks .ensures) (c .before .before .note-client .ensures)
 
 pub end-tables-spec : {M : Type 1} → statement M
 end-tables-spec =
@@ -17,6 +17,7 @@ end-tables-spec =
     (λ c. search needs)
     (λ c κs. search needs)
     (λ c. search needs)
+    (λ c κs. search needs)
     (λ c κs. search needs)
     (λ c κs. search needs)
     (λ c. search needs)
