@@ -1,4 +1,6 @@
 // What an abort tests and changes: the undoing records, and the restored copies.
+#![tactic(auto)]
+
 mod aborting;
 mod restoring;
 mod undoing;

@@ -1,1 +1,2 @@
 // Laws about calls alone: what an accepted call tells.
+#![tactic(auto)]

@@ -1,4 +1,6 @@
 // The bench program: a store of 4 pages and 64 log records in memory; lines in, answers out.
+#![tactic(auto)]
+
 ghost use Rattle.std.specs.Prelude.{◌+◌, ◌*◌, ◌<◌, ◌≡◌};
 ghost use Rattle.areas.specs.Areas.{areas};
 ghost use Rattle.bench_run.specs.Bench.{bench_store};
@@ -38,7 +40,7 @@ const OUT_ROOM: usize = bench_output::LINE_ROOM * CHUNK;
 const TURNS: u64 = u64::MAX / (CHUNK as u64);
 
 // Where the program stands between two chunks: the place, the chunks that may still be read, and whether the input ended.
-#[derive(Drop)]
+#[derive(Clone, Copy)]
 struct Turn {
     place: Place,
     turns: u64,

@@ -1,4 +1,6 @@
 // One line of the bench program's input, and its command.
+#![tactic(auto)]
+
 ghost use Rattle.std.specs.Prelude.{◌≡◌};
 ghost use Rattle.texts.specs.Parts.{following};
 ghost use Rattle.bench_commands.specs.Commands.{and_number, numbers_from, call_of, command_of};
@@ -7,7 +9,7 @@ use bench_names::{Command, call_alone, call_four, call_one, call_two};
 use decimals::Number;
 
 // The numbers of the fields after a call's name; Bad: one is no number, or there are more than four.
-#[derive(Drop)]
+#[derive(Clone, Copy)]
 pub enum Numbers {
     Zero,
     One(u32),

@@ -1,4 +1,6 @@
 // The input of the bench program, byte by byte.
+#![tactic(auto)]
+
 ghost use Rattle.std.specs.Prelude.{◌≡◌};
 ghost use Rattle.bench_feeding.specs.Reading.{no_line, pushed, settled, held_command, fed, finished};
 
@@ -13,7 +15,7 @@ const MORE: usize = 65;
 
 // The line that is being read: its first bytes, how many it has (MORE: more than are kept),
 // and whether a CR came last, which is no byte of the line if an LF follows.
-#[derive(Drop)]
+#[derive(Clone, Copy)]
 pub struct Line {
     pub bytes: [u8; LINE_BYTES],
     pub count: usize,
@@ -21,14 +23,14 @@ pub struct Line {
 }
 
 // Whether a line ended, and its command.
-#[derive(Drop)]
+#[derive(Clone, Copy)]
 pub enum Ended {
     No,
     Yes(Command),
 }
 
 // The line after a byte, and what the byte ended.
-#[derive(Drop)]
+#[derive(Clone, Copy)]
 pub struct Fed {
     pub line: Line,
     pub ended: Ended,

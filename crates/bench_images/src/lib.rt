@@ -1,4 +1,6 @@
 // The page that a flush of the bench program sends.
+#![tactic(auto)]
+
 ghost use Rattle.std.specs.Prelude.{◌≡◌, [], get_or};
 ghost use Rattle.areas.specs.Areas.{areas};
 ghost use Rattle.bench_run.specs.Bench.{page_sent};

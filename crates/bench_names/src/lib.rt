@@ -1,10 +1,12 @@
 // The calls of the bench program by their names.
+#![tactic(auto)]
+
 ghost use Rattle.std.specs.Prelude.{◌≡◌, cond};
 ghost use Rattle.texts.specs.Same.{same};
 ghost use Rattle.bench_names.specs.Names.{call_alone, call_one, call_two, call_four};
 
 // The calls of transactions, with their numbers.
-#[derive(Drop)]
+#[derive(Clone, Copy)]
 pub enum TransactionCall {
     Begin(u32),
     Commit(u32),
@@ -12,14 +14,14 @@ pub enum TransactionCall {
 }
 
 // The calls for a lock: transaction and page.
-#[derive(Drop)]
+#[derive(Clone, Copy)]
 pub enum LockCall {
     LockRead(u32, u32),
     LockWrite(u32, u32),
 }
 
 // The calls that a transaction makes on pages and objects.
-#[derive(Drop)]
+#[derive(Clone, Copy)]
 pub enum ObjectCall {
     Flush(u32, u32),
     Read(u32, u32),
@@ -28,7 +30,7 @@ pub enum ObjectCall {
 }
 
 // The calls that make something stable.
-#[derive(Drop)]
+#[derive(Clone, Copy)]
 pub enum StabilityCall {
     Store(u32),
     Force,
@@ -36,21 +38,21 @@ pub enum StabilityCall {
 }
 
 // The calls of a pass.
-#[derive(Drop)]
+#[derive(Clone, Copy)]
 pub enum PassCall {
     Pass,
     Step,
 }
 
 // The calls of a reopening.
-#[derive(Drop)]
+#[derive(Clone, Copy)]
 pub enum ReopeningCall {
     Reopen,
     Restep,
 }
 
 // One line of the bench program's input: a call with its numbers, or no call.
-#[derive(Drop)]
+#[derive(Clone, Copy)]
 pub enum Command {
     Transaction(TransactionCall),
     Lock(LockCall),

@@ -1,4 +1,6 @@
 // The bench program's calls on pages and objects.
+#![tactic(auto)]
+
 ghost use Rattle.std.specs.Prelude.{◌≡◌};
 ghost use Rattle.areas.specs.Areas.{areas, out};
 ghost use Rattle.bench_names.specs.declared.ObjectCall.TheVariants.{Flush, Read};

@@ -1,4 +1,6 @@
 // The bench program's rights: client 0 has all of them.
+#![tactic(auto)]
+
 ghost use Rattle.std.specs.Prelude.{◌≡◌};
 ghost use Rattle.areas.specs.Areas.{areas, out};
 ghost use Rattle.bench_run.specs.Bench.{bench_pages, all_given, rights_again};

@@ -1,1 +1,2 @@
 // The bench program's meaning is a definition alone.
+#![tactic(auto)]

@@ -1,4 +1,6 @@
 // The input of the bench program served: its bytes one by one, the call of each line that ends, the output lines.
+#![tactic(auto)]
+
 ghost use Rattle.std.specs.Prelude.{◌≡◌, length};
 ghost use Rattle.std.proofs.lemmas.List.Edits.{sets};
 ghost use Rattle.areas.specs.Areas.{areas};
@@ -9,7 +11,7 @@ use areas::Answer;
 use bench_feeding::{Ended, Line};
 
 // Where the serving stands: the line so far, the number of the next one, and the bytes of the output buffer that are used.
-#[derive(Drop)]
+#[derive(Clone, Copy)]
 pub struct Place {
     pub line: Line,
     pub number: u64,

@@ -1,2 +1,4 @@
 // Bits of a word.
+#![tactic(auto)]
+
 pub mod bits;

@@ -1,1 +1,2 @@
 // The book and demand 3 are definitions alone.
+#![tactic(auto)]

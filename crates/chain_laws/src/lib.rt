@@ -1,1 +1,2 @@
 // Laws of the search for a chain of references; no code.
+#![tactic(auto)]

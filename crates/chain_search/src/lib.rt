@@ -1,5 +1,7 @@
 // The search for the chain of references that keeps an object: a queue of objects, each with its finder. Each reference of an object
 // that is taken from the queue is looked at once.
+#![tactic(auto)]
+
 mod entering;
 
 ghost use Rattle.std.specs.Prelude.{◌≡◌, ℕ, ◌+◌, ◌<◌, ◌≤◌, length, get_or};

@@ -1,4 +1,6 @@
 // What a chain tests, and what it shows: the chain of references that keeps an object, as the search leaves it, in a lent buffer.
+#![tactic(auto)]
+
 mod trace;
 
 ghost use Rattle.std.specs.Prelude.{◌≡◌, true, [], ◌*◌, ◌≤◌, length};

@@ -1,4 +1,6 @@
 // How a C function answers: the answer's number times 2^32, plus its value.
+#![tactic(auto)]
+
 ghost use Rattle.std.specs.Prelude.{◌≡◌};
 ghost use Rattle.codes.specs.Codes.{coded};
 

@@ -1,1 +1,2 @@
 // Laws about the machine alone.
+#![tactic(auto)]

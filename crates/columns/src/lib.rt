@@ -1,1 +1,2 @@
 // A page by columns. The definitions stand in specs/.
+#![tactic(auto)]

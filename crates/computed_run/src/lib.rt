@@ -1,1 +1,2 @@
 // A computed run is definitions alone.
+#![tactic(auto)]

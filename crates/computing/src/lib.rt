@@ -1,1 +1,2 @@
 // What is computed are definitions alone.
+#![tactic(auto)]

@@ -1,4 +1,6 @@
 // Numbers as decimal digits, read and written.
+#![tactic(auto)]
+
 ghost use Rattle.std.specs.Prelude.{◌+◌, ◌≤◌, ◌≡◌, length};
 ghost use Rattle.std.proofs.lemmas.List.Edits.{sets};
 ghost use Rattle.decimals.specs.Digits.{most_digits};
@@ -17,7 +19,7 @@ const NINE: u8 = b'9';
 const LARGEST: u64 = 4294967295;
 
 // A text read as a number.
-#[derive(Drop)]
+#[derive(Clone, Copy)]
 pub enum Number {
     Is(u32),
     Not,

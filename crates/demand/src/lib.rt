@@ -1,1 +1,2 @@
 // The theorem of demand 3: a proof alone.
+#![tactic(auto)]

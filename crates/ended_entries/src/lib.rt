@@ -1,4 +1,6 @@
 // The PRT's and COT's entries of a transaction that ends.
+#![tactic(auto)]
+
 ghost use Rattle.std.specs.Prelude.{◌≡◌, true, ◌+◌, ◌^◌, ◌<◌, ◌≤◌, eqb, length};
 ghost use Rattle.words.specs.Tests.{if};
 ghost use Rattle.words.specs.Spans.{over};

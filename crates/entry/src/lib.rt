@@ -1,4 +1,6 @@
 // Refusals 1 and 2, which every call shares.
+#![tactic(auto)]
+
 ghost use Rattle.std.specs.Prelude.{◌≡◌, ◌*◌, ◌<◌, ◌≤◌, length, eqb};
 ghost use Rattle.pages.specs.Geometry.{max_pages, page_words};
 ghost use Rattle.records.specs.Records.{max_records, record_words};

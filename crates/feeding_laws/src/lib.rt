@@ -1,1 +1,2 @@
 // Laws of the bench program's input alone.
+#![tactic(auto)]

@@ -1,4 +1,6 @@
 // A new store: the root alone in all three page areas, an empty log, and clear working tables.
+#![tactic(auto)]
+
 ghost use Rattle.std.specs.Prelude.{◌≡◌, ◌<◌, ◌≤◌, length};
 ghost use Rattle.pages.specs.Geometry.{page_words};
 ghost use Rattle.areas.specs.Areas.{areas, out};

@@ -1,4 +1,6 @@
 // What going back to a mark tests and changes: the changes since the mark, undone, and the marks set after it, dropped.
+#![tactic(auto)]
+
 ghost use Rattle.std.specs.Prelude.{◌≡◌, List, [], ℕ, ◌<◌, ◌≤◌, ltb, length, get_or, set};
 ghost use Rattle.words.specs.Tests.{if};
 ghost use Rattle.records.specs.Records.{max_records, txn_count};

@@ -1,4 +1,6 @@
 // The search for the lowest grey object.
+#![tactic(auto)]
+
 ghost use Rattle.std.specs.Prelude.{◌≡◌, ◌+◌, ◌*◌, ◌<◌, ◌≤◌};
 ghost use Rattle.pages.specs.Geometry.{slot_count};
 ghost use Rattle.areas.specs.Layout.{HasTables};

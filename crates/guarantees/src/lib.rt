@@ -1,1 +1,2 @@
 // What stands beside demand 3: statements and proofs alone.
+#![tactic(auto)]

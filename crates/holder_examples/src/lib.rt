@@ -1,1 +1,2 @@
 // The examples are definitions and laws alone.
+#![tactic(auto)]

@@ -1,4 +1,6 @@
 // The calls as C functions: each answers the answer's number times 2^32, plus its value.
+#![tactic(auto)]
+
 ghost use Rattle.std.specs.Prelude.{◌≡◌};
 ghost use Rattle.areas.specs.Areas.{areas};
 ghost use Rattle.calls.specs.Formatting.{call_format};

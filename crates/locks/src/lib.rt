@@ -1,4 +1,6 @@
 // What locks for reading and for writing a page test and change.
+#![tactic(auto)]
+
 ghost use Rattle.std.specs.Prelude.{◌≡◌, ◌<◌, length};
 ghost use Rattle.words.specs.Tests.{lowest};
 ghost use Rattle.words.specs.Bits.{bit, without_bit};
@@ -14,7 +16,7 @@ use bit_ops::bits;
 use records::TXNS;
 
 // What other transactions' locks leave of the way to a lock: barred, with the lowest of them.
-#[derive(Drop)]
+#[derive(Clone, Copy)]
 pub enum Way {
     Clear,
     Barred(u32),

@@ -1,4 +1,6 @@
 // Room in the log, and the one append.
+#![tactic(auto)]
+
 ghost use Rattle.std.specs.Prelude.{◌≡◌, ◌+◌, ◌<◌, ◌≤◌, length, get_or, set};
 ghost use Rattle.records.specs.Records.{txn_count, max_records, recorded};
 ghost use Rattle.records.specs.Effects.{effect};

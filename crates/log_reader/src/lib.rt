@@ -1,11 +1,13 @@
 // The log, read record by record through a reader that holds the log and a position in it.
+#![tactic(auto)]
+
 ghost use Rattle.std.specs.Prelude.{◌≡◌, ◌+◌, ◌*◌, ◌≤◌, length};
 ghost use Rattle.records.specs.Records.{record_words, record_at};
 
 use records::Record;
 
 // A log, and the number of the record to read.
-#[derive(Drop)]
+#[derive(Clone, Copy)]
 pub struct Reader<'a> {
     pub log: &'a [u32],
     pub at: usize,

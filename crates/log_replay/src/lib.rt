@@ -1,4 +1,6 @@
 // What stored pages and stable records give: the log read and checked, and the pages that it leaves.
+#![tactic(auto)]
+
 mod check;
 mod making;
 mod reading;
@@ -10,14 +12,14 @@ pub use making::{recover, restart};
 use records::Record;
 
 // What the reader finds: a record, or that it is unsound where it stands.
-#[derive(Drop)]
+#[derive(Clone, Copy)]
 pub enum Read {
     Sound(Record),
     Unsound,
 }
 
 // What reading the log says: the transactions still open at its end, or a refusal.
-#[derive(Drop)]
+#[derive(Clone, Copy)]
 pub enum Scan {
     Open(u32),
     Refuse(Refusal),

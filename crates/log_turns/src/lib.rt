@@ -1,4 +1,6 @@
 // The turns of a walk down the log for the changes of a transaction that are left.
+#![tactic(auto)]
+
 ghost use Rattle.std.specs.Prelude.{◌≡◌, not, ◌≤◌, eqb};
 ghost use Rattle.records.specs.Records.{max_records};
 ghost use Rattle.log_turns.specs.Turns.{turn_at};
@@ -6,7 +8,7 @@ ghost use Rattle.log_turns.specs.Turns.{turn_at};
 use records::Record;
 
 // What a walk down the log finds at a record: a change that is left, or else how many changes further down are undone.
-#[derive(Drop)]
+#[derive(Clone, Copy)]
 pub enum Turn {
     Left,
     Past(u32),

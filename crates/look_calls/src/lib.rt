@@ -1,4 +1,6 @@
 // The calls that only look at the store: refusal 1, then the call on a store that is known to be well formed. Here the chain of references.
+#![tactic(auto)]
+
 pub mod shares;
 
 ghost use Rattle.std.specs.Prelude.{◌≡◌, true, length, eqb};

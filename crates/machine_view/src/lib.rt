@@ -1,1 +1,2 @@
 // The laws that read page areas as objects.
+#![tactic(auto)]

@@ -1,4 +1,6 @@
 // One marking step.
+#![tactic(auto)]
+
 ghost use Rattle.std.specs.Prelude.{◌≡◌, ◌+◌, ◌<◌, ◌≤◌, length};
 ghost use Rattle.pages.specs.Geometry.{slot_words, page_words, max_pages, object_count, page_at, page_of};
 ghost use Rattle.areas.specs.Layout.{HasTables};

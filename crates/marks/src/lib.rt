@@ -1,4 +1,6 @@
 // What a mark tests and changes: the order of a transaction's marks, and how many of its changes are left.
+#![tactic(auto)]
+
 ghost use Rattle.std.specs.Prelude.{◌≡◌, not, ◌&&◌, List, [], ℕ, ◌+◌, ◌<◌, ◌≤◌, eqb, length, get_or};
 ghost use Rattle.words.specs.Tests.{if};
 ghost use Rattle.words.specs.Spans.{over};

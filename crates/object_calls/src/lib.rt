@@ -1,4 +1,6 @@
 // Reads, creates, sets and flushes: refusal 1, then the call on a store that is known to be well formed.
+#![tactic(auto)]
+
 mod creating;
 mod flushing;
 mod reading;

@@ -1,4 +1,6 @@
 // What accepted creates and sets of objects do.
+#![tactic(auto)]
+
 mod creating;
 mod setting;
 

@@ -1,4 +1,6 @@
 // What a read, a create, a set and a flush test, behind refusals 1 and 2.
+#![tactic(auto)]
+
 ghost use Rattle.std.specs.Prelude.{◌≡◌, ◌&&◌, [], ◌*◌, ◌<◌, ◌≤◌, length, get_or, ltb};
 ghost use Rattle.pages.specs.Geometry.{page_words, max_pages, is_object};
 ghost use Rattle.records.specs.Records.{txn_count};

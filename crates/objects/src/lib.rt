@@ -1,4 +1,6 @@
 // What accepted reads of objects and flushes of pages do.
+#![tactic(auto)]
+
 mod flushing;
 mod reading;
 

@@ -1,2 +1,4 @@
 // What is sound in a page area.
+#![tactic(auto)]
+
 pub mod sound;

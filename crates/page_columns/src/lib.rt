@@ -1,4 +1,6 @@
 // A page by columns, and back: the calls that arrange a page. They need no store.
+#![tactic(auto)]
+
 ghost use Rattle.std.specs.Prelude.{◌≡◌, ◌&&◌, eqb};
 ghost use Rattle.pages.specs.Geometry.{page_words};
 ghost use Rattle.columns.specs.Columns.{to_columns, from_columns};

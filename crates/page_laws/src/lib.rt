@@ -1,1 +1,2 @@
 // Laws about page areas alone.
+#![tactic(auto)]

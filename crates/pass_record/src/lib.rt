@@ -1,4 +1,6 @@
 // The pass record: phase, page and step number, by value, and one step of it.
+#![tactic(auto)]
+
 ghost use Rattle.std.specs.Prelude.{◌≡◌, ◌<◌, ◌≤◌, length};
 ghost use Rattle.pages.specs.Geometry.{max_pages};
 ghost use Rattle.areas.specs.Layout.{steps_at};
@@ -7,7 +9,7 @@ ghost use Rattle.pass_record.specs.Step.{pass_of, with_record, steps_after, pass
 use areas::layout;
 
 // The pass record.
-#[derive(Drop)]
+#[derive(Clone, Copy)]
 pub struct Pass {
     pub phase: u32,
     pub page: u32,

@@ -1,4 +1,6 @@
 // The share of a pass that each of a number of commits owes: refusal 17, and the share into its buffer.
+#![tactic(auto)]
+
 ghost use Rattle.std.specs.Prelude.{◌≡◌, ◌≤◌, length};
 ghost use Rattle.pages.specs.Geometry.{max_pages};
 ghost use Rattle.areas.specs.Answers.{verdict};

@@ -1,4 +1,6 @@
 // The start of a pass.
+#![tactic(auto)]
+
 ghost use Rattle.std.specs.Prelude.{◌≡◌, ◌≤◌};
 ghost use Rattle.pages.specs.Geometry.{object_count};
 ghost use Rattle.areas.specs.Layout.{HasTables};

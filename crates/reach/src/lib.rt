@@ -1,1 +1,2 @@
 // What a page area reaches from the root. The definitions stand in specs/.
+#![tactic(auto)]

@@ -1,5 +1,7 @@
 // Whether whatever the root reaches in a page area is occupied. The walk goes breadth first and looks at each reference of a reached
 // object once.
+#![tactic(auto)]
+
 ghost use Rattle.std.specs.Prelude.{◌≡◌, true, ◌<◌, length};
 ghost use Rattle.pages.specs.Geometry.{slot_words};
 ghost use Rattle.areas.specs.Ranges.{pages_in};
@@ -12,7 +14,7 @@ use page_ops::change;
 use pages::{MAX_OBJECTS, MAX_PAGES, PAGE_WORDS, ROOT, SLOT_WORDS, SLOTS};
 
 // What a step of the walk comes to: where the queue ends now, or that a reached object is not there.
-#[derive(Drop)]
+#[derive(Clone, Copy)]
 enum Step {
     Tail(usize),
     Dangling,

@@ -1,4 +1,6 @@
 // What is sound in a log record: each of its six words by itself, and whether it may come where it stands.
+#![tactic(auto)]
+
 mod order;
 mod sound;
 

@@ -1,1 +1,2 @@
 // Laws about log records alone.
+#![tactic(auto)]

@@ -1,4 +1,6 @@
 // Log records: what they do, the record that undoes one, where one is written, and the pages that they name.
+#![tactic(auto)]
+
 mod effects;
 mod naming;
 

@@ -1,5 +1,7 @@
 // Refusal 1's check of the log: each record is held to a row of four ranges, of its object, field, old and new word. A kind has a row,
 // and a set of a data word has one of its own. No branch depends on a record, since kinds come in any order.
+#![tactic(auto)]
+
 ghost use Rattle.std.specs.Prelude.{◌≡◌, ◌*◌, ◌≤◌, ◌&&◌, length, ◌==◌};
 ghost use Rattle.pages.specs.Geometry.{max_pages};
 ghost use Rattle.records.specs.Records.{record_words};

@@ -1,1 +1,2 @@
 // The laws of the log and of reopening.
+#![tactic(auto)]

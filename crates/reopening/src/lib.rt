@@ -1,5 +1,7 @@
 // Reopening after a cut: what the stored pages and the stable records give, and the steps that make it stable. What each call tests and
 // changes.
+#![tactic(auto)]
+
 ghost use Rattle.std.specs.Prelude.{◌≡◌, true, [], ◌+◌, ◌*◌, ◌<◌, ◌≤◌, length, set};
 ghost use Rattle.words.specs.Tests.{if};
 ghost use Rattle.pages.specs.Geometry.{max_pages, page_words, page_at};

@@ -1,4 +1,6 @@
 // How many changes of a transaction are left, and what the active transactions reserve: one walk down the log for both.
+#![tactic(auto)]
+
 ghost use Rattle.std.specs.Prelude.{◌≡◌, ◌+◌, ◌*◌, ◌<◌, ◌≤◌, length};
 ghost use Rattle.words.specs.Tests.{if};
 ghost use Rattle.words.specs.Bits.{bit};
@@ -13,7 +15,7 @@ use records::Record;
 const TXNS: usize = records::TXNS as usize;
 
 // What a walk down the log leaves: the transactions whose last begin was not met, and by transaction how many of its changes were.
-#[derive(Drop)]
+#[derive(Clone, Copy)]
 struct Walk {
     sought: u32,
     changes: [u32; TXNS],

@@ -1,1 +1,2 @@
 // Examples of document 02's L9, alone.
+#![tactic(auto)]

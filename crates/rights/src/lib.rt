@@ -1,4 +1,6 @@
 // The rights of clients: whether a transaction's is enough for a lock, and what a change of one tests and changes.
+#![tactic(auto)]
+
 ghost use Rattle.std.specs.Prelude.{◌≡◌, [], ◌<◌};
 ghost use Rattle.records.specs.Records.{txn_count};
 ghost use Rattle.areas.specs.Answers.{verdict};

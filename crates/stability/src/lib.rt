@@ -1,4 +1,6 @@
 // What becomes stable: records one by one, pages one by one, and the log emptied once all is. What each call tests and changes.
+#![tactic(auto)]
+
 ghost use Rattle.std.specs.Prelude.{◌≡◌, true, [], ◌+◌, ◌*◌, ◌<◌, ◌≤◌, length, get_or, set};
 ghost use Rattle.pages.specs.Geometry.{max_pages};
 ghost use Rattle.records.specs.Records.{record_words, max_records};

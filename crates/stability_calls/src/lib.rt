@@ -1,4 +1,6 @@
 // Force, store page and empty log: refusal 1, then the call on a store that is known to be well formed.
+#![tactic(auto)]
+
 ghost use Rattle.std.specs.Prelude.{◌≡◌, true};
 ghost use Rattle.areas.specs.Areas.{areas, out};
 ghost use Rattle.areas.specs.Entry.{well_formed};

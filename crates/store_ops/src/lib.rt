@@ -1,4 +1,6 @@
 // What calls share of the working tables: masks, locks and colours.
+#![tactic(auto)]
+
 mod tables;
 
 pub use tables::{

@@ -1,1 +1,2 @@
 // Examples of the sweeping step in the paper's order are definitions and laws alone.
+#![tactic(auto)]

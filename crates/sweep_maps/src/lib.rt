@@ -1,4 +1,6 @@
 // The slots that a sweeping step frees: the working tables' part, the lock and the page.
+#![tactic(auto)]
+
 ghost use Rattle.std.specs.Prelude.{◌≡◌, [], ◌^◌, ◌<◌, ◌≤◌, length};
 ghost use Rattle.words.specs.Tests.{if};
 ghost use Rattle.pages.specs.Geometry.{slot_count, map_top, page_at};

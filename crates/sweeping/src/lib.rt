@@ -1,4 +1,6 @@
 // One sweeping step: the slots that it frees, room for its record, and the pages, the log and the pass record after it.
+#![tactic(auto)]
+
 ghost use Rattle.std.specs.Prelude.{◌≡◌, List, [], ℕ, ◌+◌, ◌*◌, ◌<◌, ◌≤◌, length, get_or};
 ghost use Rattle.words.specs.Bits.{slots_set};
 ghost use Rattle.pages.specs.Geometry.{page_words, max_pages, map_top, page_at};

@@ -1,4 +1,6 @@
 // Texts as bytes: the same text, and the fields of a line.
+#![tactic(auto)]
+
 ghost use Rattle.std.specs.Prelude.{◌≡◌};
 ghost use Rattle.texts.specs.Same.{same};
 ghost use Rattle.texts.specs.Parts.{field_length};

@@ -1,4 +1,6 @@
 // What begin and commit test and change, and the working tables of a transaction that ends.
+#![tactic(auto)]
+
 mod beginning;
 mod clients;
 mod committing;

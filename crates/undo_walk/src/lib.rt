@@ -1,4 +1,6 @@
 // The newest changes of a transaction that are left, undone newest first: their undoing records, and the tables that they touch.
+#![tactic(auto)]
+
 ghost use Rattle.std.specs.Prelude.{◌≡◌, [], ◌+◌, ◌<◌, ◌≤◌, take};
 ghost use Rattle.pages.specs.Geometry.{object_count};
 ghost use Rattle.records.specs.Records.{max_records};

@@ -1,4 +1,6 @@
 // Refusal 1's ranges of the working tables.
+#![tactic(auto)]
+
 ghost use Rattle.std.specs.Prelude.{◌≡◌, ◌+◌, ◌≤◌, length};
 ghost use Rattle.words.specs.Spans.{up_to};
 ghost use Rattle.pages.specs.Geometry.{max_pages};

@@ -1,1 +1,2 @@
 // The table of examples is a statement about definitions alone.
+#![tactic(auto)]
