@@ -2,8 +2,8 @@ use mathlib.Core.Path.{sym, ◌∙◌}
 use borrow.Author.Rules.{rules}
 use borrow.Author.Tests.{eq-eqb, ne_eqb}
 use Rattle.words.specs.Tests.{if_t, if_f}
-use Rattle.record_check.proofs.order.open_next_law.Statement.{statement}
-use Rattle.record_check.proofs.order.open_next_law.Tie as tie
+use Rattle.record_check.proofs.order.open_next.Statement.{statement}
+use Rattle.record_check.proofs.order.open_next.Tie as tie
 
 returns : tie.Need-returns
 returns c = c.with-bit.ensures ∙ sym (if_t _ _ _ (eq-eqb _ _ c.before.before.if1.true))
