@@ -15,4 +15,4 @@ pub has-requires : goal.has-requires
 has-requires c = let h = object_range c.args.n c.args.o (sym c.is_object.ensures ∙ not-false _ c.if-not-is_object.false-raw) in search rules
 
 pub returns : goal.returns
-returns c = rw (c.has.ensures, c.known_at_lem.ensures) (sym (if_t _ _ _ (sym c.is_object.ensures ∙ not-false _ c.if-not-is_object.false-raw)))
+returns c = rw (c.has.ensures, c.known_at.ensures) (sym (if_t _ _ _ (sym c.is_object.ensures ∙ not-false _ c.if-not-is_object.false-raw)))
