@@ -6,4 +6,4 @@ pub returns : goal.returns
 returns c =
     let s = c.args in
     outside_none s.before c.wrapping_sub_u32.result c.above.result s.x s.low s.span
-    (omega arith) (omega arith) (omega arith) c.wrapping_sub_u32.ensures c.above.ensures
+    (omega arith) (omega arith) (omega arith) c.wrapping_sub_u32.ensures.value c.above.ensures

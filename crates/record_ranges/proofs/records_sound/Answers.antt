@@ -12,7 +12,7 @@ pub loop-i-preserved : goal.loop-i-preserved
 loop-i-preserved c =
     let l = c.loop-i in
     let r = c.record_at-r.result in
-    let w : Words c.args.n r.txn r.old r.new = record { pages-from = c.requires.1; pages-to = c.requires.2; txn = omega arith; old = omega arith; new = omega arith } in
+    let w : Words c.args.n r.txn r.old r.new = record { pages_from = c.requires.1; pages_to = c.requires.2; txn = omega arith; old = omega arith; new = omega arith } in
     let s = rows_sound _ r _ _ _ _ w c.lows-low.ensures c.spans-span.ensures c.barred_bits-barred.ensures c.row_of-k.ensures in (
       omega (arith, c.loop-i-test.true),
       clean_next _ _ _ _ _ _ _ _ _ _ _ _ _ _ r _ _ _ _ c.record_at-r.ensures l.invariant.1 s
