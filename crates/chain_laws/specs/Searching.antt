@@ -128,7 +128,7 @@ module _ (a : List ℕ) (n h : ℕ) (q : List (List ℕ)) (v : Queue a n h q) (w
 
   by_place : (P : ℕ → List ℕ → Type 0) → ((i : ℕ) → i < length q → P i (get_or q i [])) → ((k : ℕ) → k < length new → P (length q + k) (get_or q h [] ++ (get_or new k 0 ∷ []))) →
       (i : ℕ) → i < length after → P i (get_or after i [])
-  by_place P f g i l = elim (grown_place q (get_or q h []) new i l) [
+  by_place P f g i l = elim (grown_place q (get_or q h []) new i l) as (λ (j : ℕ) (_ : Place q new j). P j (get_or after j [])) [
     | old i b ↦ subst (P i) (sym (at_old i b)) (f i b)
     | more k b ↦ subst (P (length q + k)) (sym (at_new k b)) (g k b)
   ]
