@@ -60,7 +60,7 @@ module _ (w : List ℕ) (phase page steps : ℕ) (long : 5 ≤ length w) where
   pass_phase = get_or-set_other (set (set w 2 phase) 3 page) 4 2 steps 0 (omega arith) ∙ get_or-set_other (set w 2 phase) 3 2 page 0 (omega arith) ∙ get_or-set_same w 2 phase 0 (omega arith)
 
   pub pass_page : at (with_pass w phase page steps) 3 ≡ page
-  pass_page = get_or-set_other (set (set w 2 phase) 3 page) 4 3 steps 0 (omega arith) ∙ get_or-set_same (set w 2 phase) 3 page 0 (let e = lib.ListN.length_set w 2 phase in omega arith)
+  pass_page = get_or-set_other (set (set w 2 phase) 3 page) 4 3 steps 0 (omega arith) ∙ get_or-set_same (set w 2 phase) 3 page 0 (let e = lib.ListN.length-set w 2 phase in omega arith)
 
   pub pass_steps : at (with_pass w phase page steps) 4 ≡ steps
-  pass_steps = get_or-set_same (set (set w 2 phase) 3 page) 4 steps 0 (let e = lib.ListN.length_set w 2 phase in let f = lib.ListN.length_set (set w 2 phase) 3 page in omega arith)
+  pass_steps = get_or-set_same (set (set w 2 phase) 3 page) 4 steps 0 (let e = lib.ListN.length-set w 2 phase in let f = lib.ListN.length-set (set w 2 phase) 3 page in omega arith)

@@ -1,7 +1,7 @@
 -- Moves keep the invariant, whose `past` says that reopening over any stable part of the log leaves the committed state of the book.
 -- Assumes nothing.
 use Prim.Native.Nat.{ℕ}
-use mathlib.Core.Path.{◌≡◌, refl, sym, ap, ◌∙◌}
+use mathlib.Core.Path.{◌≡◌, refl, sym, ap, subst, ◌∙◌}
 use mathlib.Core.Bool.{Bool, true, false, not, cond}
 use mathlib.Core.List.{◌∷◌}
 use mathlib.Core.Logic.{inl, inr}
@@ -99,7 +99,7 @@ module _ (base : ℕ → Obj) (s : Log) (t : ℕ) (i : Inv base s) where
       → (x : ℕ) → undo x everyone (acts t o d u ∷ s.lines) (cond (eqb o x) (d (s.full x)) (s.full x)) ≡ s.comm x
   unfolding undo
   undone_wrote o d u back x = by_bool (eqb o x)
-      (λ e. rw (e, true_and true) (rw (← (eqb-true o x e), back) (i.undone o)))
+      (λ e. rw (e, true_and true) (rw (← (eqb-true o x e), back) (subst (λ (y : ℕ). undo y everyone s.lines (s.full o) ≡ s.comm o) (eqb-true o x e) (i.undone o))))
       (λ e. rw (e, true_and false) (i.undone x))
 
   keep_write : (o : ℕ) (d u : Obj → Obj) → own s t o ≡ true → u (d (s.full o)) ≡ s.full o → Inv base (wrote s t o d u)
