@@ -134,6 +134,7 @@ module _ (a : List ℕ) (c : Line → Bool) (i : ℕ) where
             (λ z. seen_out a c l (struck_newest i ls) x z ∙ h ∙ sym (seen_out a c l ls x z))
 
     pub backs_undone : (ls : List Line) (u : Item) (us : List Item) → Backs a c i ls (u ∷ us) → Undone ls u us
+    backs_undone [] u us b = elim b [ ]
     backs_undone (l ∷ ls) u us (past e f b) = undone_past l ls u us e f (backs_undone ls u us b)
     backs_undone (l ∷ ls) u us (here e k p b) = undone_here l ls u us e k p b
 

@@ -16,7 +16,7 @@ use Rattle.records.specs.Records.{is_begin, is_sweep, is_end, commit_of, aborted
 use Rattle.book.specs.Lines.{Line, line, struck_out, is_left, left, struck_newest, has_end}
 use Rattle.book.specs.Books.{Book, runs}
 use Rattle.book.specs.Feeding.{with_lines, adds, ends, undoes}
-use Rattle.book_laws.specs.Striking.{undoing_line, Strikes, stays, out}
+use Rattle.book_laws.specs.Striking.{undoing_line, Strikes, none, stays, out}
 use Rattle.book_laws.specs.After.{committed_by, aborted_by}
 use Rattle.book_laws.specs.Keeping.{Each, Runs, LineOk, Since, at_begin, newer, BookInv}
 use Rattle.book_laws.proofs.Members.{each_cons}
@@ -194,6 +194,7 @@ module _ (b : Book) (inv : BookInv b) (t : ℕ) (run : Runs b t) where
     }
 
     since_strikes : (u j : ℕ) {ls ms : List Line} → Strikes i ls ms → Since u j ls → Since u j ms
+    since_strikes u j none x = elim x [ ]
     since_strikes u j (stays s) (at_begin p o h) = at_begin p o (strikes_each i (λ m. m.owner ≡ j → ⊥) s h (λ l n e. h l n))
     since_strikes u j (stays s) (newer p o h) = newer p o (since_strikes u j s h)
     since_strikes u j (out {l} e s) (at_begin p o h) = at_begin p o (strikes_each i (λ m. m.owner ≡ j → ⊥) s h (λ l n e. h l n))

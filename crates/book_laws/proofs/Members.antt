@@ -27,11 +27,13 @@ taken f m ls l e h (later j) = let k = h j in (later k.0, k.1)
 
 pub in_filtered : (f : Line → Bool) (ls : List Line) (l : Line) → In l (filtered f ls) → In l ls × (f l ≡ true)
 unfolding filtered
+in_filtered f [] l i = elim i [ ]
 in_filtered f (m ∷ ls) l i = by_bool (f m)
     (λ e. taken f m ls l e (λ j. in_filtered f ls l j) (rw e at i))
     (λ e. let k = in_filtered f ls l (rw e at i) in (later k.0, k.1))
 
 pub any_line_law : (f : Line → Bool) (ls : List Line) (l : Line) → In l ls → f l ≡ true → any_line f ls ≡ true
 unfolding any_line
+any_line_law f [] l i e = elim i [ ]
 any_line_law f (m ∷ ls) l here e = or_l (f m) (any_line f ls) e
 any_line_law f (m ∷ ls) l (later i) e = or_r (f m) (any_line f ls) (any_line_law f ls l i e)

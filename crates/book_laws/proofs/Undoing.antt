@@ -111,6 +111,7 @@ module _ (i : ℕ) where
   -- where nothing is left no line is
   pub none_left : (ls : List Line) → left i ls ≡ 0 → (l : Line) → In l ls → is_left i l ≡ false
   unfolding left
+  none_left [] h l j = elim j [ ]
   none_left (m ∷ ls) h l j = by_bool (is_left i m)
       (λ e. absurd (let d : left i ls + 1 ≡ 0 = rw e at h in omega arith))
       (λ e. let d : left i ls + 0 ≡ 0 = rw e at h in each_cons {P = λ l. is_left i l ≡ false} e (none_left ls (omega arith)) l j)

@@ -178,10 +178,12 @@ module _ (n : ℕ) (some : 1 ≤ n) (s : Areas) (b : Book) (i : OpenInv n s b) (
   unfolding appended entries filtered
   notes_after = let q = undoes_same n s.work w behind in record {
     left = λ u run. ap (left_records (undoes w n) (recorded s.log (received_count s) (begin_of t)) u) count_more ∙ by_bool (eqb u t)
-        (λ e. rw (e, eqb-true u t e) (left_begun n s b i.going.notes w (begin_of t) long q t (eq-eqb t t refl)
-        ∙ sym (ap entries (filtered_none (is_left (b.begun + 1)) b'.lines none_left))))
-        (λ e. rw e (left_other n s b i.going.notes w (begin_of t) long q u (rw e at run) (ne_eqb t u (λ z. eqb-false u t e (sym z))) refl
-        ∙ sym (rw (ne_eqb (b.begun + 1) (b.running u) (λ z. let k = i.book.young u in omega arith)) refl)));
+        (λ e. let ran : put b.running t (b.begun + 1) u ≡ b.begun + 1 = rw e refl in
+        let none : left_records (undoes w n) (recorded s.log (received_count s) (begin_of t)) u (received_count s + 1) ≡ [] = rw (eqb-true u t e) (left_begun n s b i.going.notes w (begin_of t) long q t (eq-eqb t t refl)) in
+        none ∙ sym (ap entries (filtered_none (is_left (b.begun + 1)) b'.lines none_left)) ∙ ap (λ (j : ℕ). entries (filtered (is_left j) b'.lines)) (sym ran))
+        (λ e. let ran : put b.running t (b.begun + 1) u ≡ b.running u = rw e refl in
+        let same : entries (filtered (is_left (b.running u)) b'.lines) ≡ entries (filtered (is_left (b.running u)) b.lines) = rw (ne_eqb (b.begun + 1) (b.running u) (λ z. let k = i.book.young u in omega arith)) refl in
+        left_other n s b i.going.notes w (begin_of t) long q u (rw e at run) (ne_eqb t u (λ z. eqb-false u t e (sym z))) refl ∙ sym same ∙ ap (λ (j : ℕ). entries (filtered (is_left j) b'.lines)) (sym ran));
     fresh = fresh_more n s b i.going.notes w (begin_of t) long q (received_count s') count_more;
     marks = marks_same n s.work w b.marked behind i.going.notes.marks;
   }
