@@ -23,4 +23,4 @@ loop-t-preserved c =
 
 pub returns : goal.returns
 unfolding reserved
-returns c = let e : c.loop-t.t ≡ txn_count = omega arith in (rw e at c.loop-t.invariant.2, omega arith)
+returns c = let e : c.loop-t.t ≡ txn_count = omega arith in record { value = rw e at c.loop-t.invariant.2; upper_bound = omega arith }
