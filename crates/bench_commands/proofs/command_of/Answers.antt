@@ -1,4 +1,4 @@
-use Rattle.std.proofs.Common.{rules, arith, ◌≤◌, length, sym, ◌∙◌}
+use Rattle.std.proofs.Common.{arith, ◌≤◌, length, sym, ◌∙◌}
 use Rattle.std.proofs.Math.Seq.{length-take-le}
 use Rattle.texts.specs.FieldLaws.{length_le}
 use Rattle.bench_commands.proofs.Parted.{command_parts}
