@@ -35,8 +35,8 @@ loop-i-preserved c =
       omega arith,
       omega arith,
       (elim c.if-names_page.branch [
-        goal.then-names_page w ↦ rw w.last-is (named_some _ _ _ _ _ h.0 f h.2 _ (b ∙ w.if-names_page.true) w.page_named-p.ensures)
-      | goal.else-names_page w ↦ rw w.last-is (named_none _ _ _ _ _ h.0 f h.2 (b ∙ w.if-names_page.false))
+        | goal.then-names_page w ↦ rw w.last-is (named_some _ _ _ _ _ h.0 f h.2 _ (b ∙ w.if-names_page.true) w.page_named-p.ensures)
+        | goal.else-names_page w ↦ rw w.last-is (named_none _ _ _ _ _ h.0 f h.2 (b ∙ w.if-names_page.false))
       ]),
     )
 
