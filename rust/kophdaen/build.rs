@@ -1,6 +1,6 @@
 //! Where the archive stands: in the directory that KOPHDAEN_LIB names, as an absolute path.
 
-/// The proved crate that `rt staticlib` makes the archive of.
+/// The proved crate that `rt lib` makes the archive of.
 const CRATE: &str = "kophdaen";
 
 fn main() {

@@ -1,7 +1,7 @@
 // The bench program: a store of 4 pages and 64 log records in memory; lines in, answers out.
 #![tactic(auto)]
 
-ghost use Rattle.std.specs.Prelude.{◌+◌, ◌*◌, ◌<◌, ◌≡◌};
+ghost use Rattle.std.specs.Prelude.{◌+◌, ◌*◌, ◌<◌, ◌≤◌, ◌≡◌, length, IfSome};
 ghost use Rattle.areas.specs.Areas.{areas};
 ghost use Rattle.bench_run.specs.Bench.{bench_store};
 ghost use Rattle.bench_serving.specs.Held.{state_of};
@@ -9,7 +9,7 @@ ghost use Rattle.bench.specs.Turns.{chunk, Reached, Lines};
 
 use areas::layout;
 use bench_serving::{Place, serve_bytes, serve_last};
-use libc::{STDERR_FILENO, STDIN_FILENO, STDOUT_FILENO};
+use std::io::{Print, Read, Stderr, Stdin, Stdout};
 
 // The store: so many pages and log records.
 const PAGES: usize = bench_rights::PAGES as usize;
@@ -47,32 +47,45 @@ struct Turn {
     ended: bool,
 }
 
-// Reads a chunk, or says that it failed.
-fn read_chunk(buf: &mut [u8]) -> isize {
-    let got = libc::read(STDIN_FILENO, buf);
-    if got < 0 {
-        io::write_all(STDERR_FILENO, b"bench: reading failed\n");
+// Where the program reads, writes, and says what failed.
+#[derive(Clone, Copy)]
+struct Streams {
+    input: Stdin,
+    output: Stdout,
+    errors: Stderr,
+}
+
+// Reads a chunk and gives its length, or says that it failed and gives nothing.
+fn read_chunk(streams: Streams, buf: &mut [u8]) -> Option<usize>
+    ensures { IfSome result (λ n. n ≤ length buf.new) }
+{
+    let mut input = streams.input;
+    match input.read(buf) {
+        Ok(n) => Some(n),
+        Err(_) => {
+            let _ = streams.errors.write_all(b"bench: reading failed\n");
+            None
+        }
     }
-    got
 }
 
 // Writes output lines, or says that it failed.
-fn put(lines: &[u8]) -> bool
+fn put(streams: Streams, lines: &[u8]) -> bool
     requires { Lines lines.now }
 {
-    let written = io::write_all(STDOUT_FILENO, lines);
+    let written = streams.output.write_all(lines).is_ok();
     if !written {
-        io::write_all(STDERR_FILENO, b"bench: writing failed\n");
+        let _ = streams.errors.write_all(b"bench: writing failed\n");
     }
     written
 }
 
 // The turns that are left after one more: none at the end of the input, or where reading or writing failed.
-fn left(turns: u64, got: isize, written: bool) -> u64
+fn left(turns: u64, got: Option<usize>, written: bool) -> u64
     requires { 0 < turns }
     ensures { result < turns }
 {
-    if got <= 0 {
+    if got.unwrap_or(0) == 0 {
         return 0;
     }
     if !written {
@@ -83,6 +96,7 @@ fn left(turns: u64, got: isize, written: bool) -> u64
 
 // Reads a chunk, serves its bytes, and writes their output lines with one write.
 fn take_chunk(
+    streams: Streams,
     stored: &mut [u32],
     copies: &mut [u32],
     received: &mut [u32],
@@ -96,8 +110,8 @@ fn take_chunk(
 {
     let place = turn.place;
     let mut buf = [0u8; CHUNK];
-    let got = read_chunk(&mut buf);
-    let n = io::count(got, &buf);
+    let got = read_chunk(streams, &mut buf);
+    let n = got.unwrap_or(0);
     let mut out = [0u8; OUT_ROOM];
     let at = serve_bytes(
         stored,
@@ -111,17 +125,18 @@ fn take_chunk(
         &buf[..n],
     );
     let used = at.used;
-    let written = put(&out[..used]);
+    let written = put(streams, &out[..used]);
     let turns = left(turn.turns, got, written);
     Turn {
         place: at,
         turns,
-        ended: got == 0,
+        ended: got == Some(0),
     }
 }
 
 // Takes standard input, chunk by chunk.
 fn take_input(
+    streams: Streams,
     stored: &mut [u32],
     copies: &mut [u32],
     received: &mut [u32],
@@ -139,13 +154,14 @@ fn take_input(
         ended: false,
     };
     while turn.turns > 0 {
-        turn = take_chunk(stored, copies, received, log, counts, work, turn);
+        turn = take_chunk(streams, stored, copies, received, log, counts, work, turn);
     }
     turn
 }
 
 // Takes the end of the input: the last line, and its output line.
 fn take_last(
+    streams: Streams,
     stored: &mut [u32],
     copies: &mut [u32],
     received: &mut [u32],
@@ -159,11 +175,12 @@ fn take_last(
     let mut out = [0u8; bench_output::LINE_ROOM];
     let next = serve_last(stored, copies, received, log, counts, work, &mut out, place);
     let used = next.used;
-    put(&out[..used]);
+    put(streams, &out[..used]);
 }
 
 // Takes standard input to its end. Where reading or writing failed, nothing more is done.
 fn take_all(
+    streams: Streams,
     stored: &mut [u32],
     copies: &mut [u32],
     received: &mut [u32],
@@ -173,14 +190,21 @@ fn take_all(
 )
     requires { areas stored.old copies.old received.old log.old counts.old work.old ≡ bench_store }
 {
-    let turn = take_input(stored, copies, received, log, counts, work);
+    let turn = take_input(streams, stored, copies, received, log, counts, work);
     if turn.ended {
-        take_last(stored, copies, received, log, counts, work, turn.place);
+        take_last(
+            streams, stored, copies, received, log, counts, work, turn.place,
+        );
     }
 }
 
-// The status is 0 also where reading or writing failed, which standard error says: nothing ends a Rattle program with another.
-fn main() {
+// The status is 0 also where reading or writing failed, which standard error says.
+fn main(rt: HostRuntime) {
+    let streams = Streams {
+        input: rt.stdin(),
+        output: rt.stdout(),
+        errors: rt.stderr(),
+    };
     let mut stored = [0u32; PAGE_AREA];
     let mut copies = [0u32; PAGE_AREA];
     let mut received = [0u32; PAGE_AREA];
@@ -197,6 +221,7 @@ fn main() {
     );
     bench_rights::give_all(&stored, &copies, &received, &log, &counts, &mut work);
     take_all(
+        streams,
         &mut stored,
         &mut copies,
         &mut received,

@@ -28,14 +28,14 @@ fn words_at(log: &[u32], i: usize) -> Record
     }
 }
 
-// A reader of a log at record i. (Proved by hand.)
+// A reader of a log at record i.
 fn start<'a>(log: &'a [u32], at: usize) -> Reader<'a>
     ensures { (result.log ≡ log.entry) × (result.at ≡ at) }
 {
     Reader { log, at }
 }
 
-// The record that a reader stands at. (Proved by hand.)
+// The record that a reader stands at.
 fn read<'a>(r: Reader<'a>) -> Record
     requires { record_words * r.at + record_words ≤ length r.log.now }
     ensures { result ≡ record_at r.entry.log.now r.entry.at }
@@ -43,7 +43,7 @@ fn read<'a>(r: Reader<'a>) -> Record
     words_at(r.log, r.at)
 }
 
-// Record i of a log, through a reader. (Proved by hand; whoever calls it is covered.)
+// Record i of a log, through a reader.
 pub fn record_at(log: &[u32], i: usize) -> Record
     requires { record_words * i + record_words ≤ length log.now }
     ensures { result ≡ record_at log.now i }

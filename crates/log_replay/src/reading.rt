@@ -30,7 +30,7 @@ pub fn open_after(log: &[u32], c: usize) -> Scan
         let Read::Sound(r) = read_record(log, begun, i) else {
             return Scan::Refuse(Refusal::Unsound);
         };
-        begun = record_check::open_next_law(begun, r);
+        begun = record_check::open_next(begun, r);
     }
     Scan::Open(begun)
 }

@@ -83,7 +83,7 @@ fn step(p: Pass, n: usize, first: usize, end: usize, grey: bool) -> Pass
     }
 }
 
-// The pass record, lent, advances by one step. (Proved by hand.)
+// The pass record, lent, advances by one step.
 fn advance(p: &mut Pass, n: usize, first: usize, end: usize, grey: bool)
     requires { (p.old.page < max_pages) × (n ≤ max_pages) × (first ≤ max_pages) }
     ensures { p.new ≡ pass_next p.old n first end grey }
@@ -91,7 +91,7 @@ fn advance(p: &mut Pass, n: usize, first: usize, end: usize, grey: bool)
     *p = step(*p, n, first, end, grey);
 }
 
-// The pass record after one step: what is lent is the function's own copy. (Proved by hand; whoever calls it is covered.)
+// The pass record after one step: what is lent is the function's own copy.
 pub fn advanced(p: Pass, n: usize, first: usize, end: usize, grey: bool) -> Pass
     requires { (p.page < max_pages) × (n ≤ max_pages) × (first ≤ max_pages) }
     ensures { result ≡ pass_next p n first end grey }

@@ -4,7 +4,7 @@
 mod order;
 mod sound;
 
-pub use order::{in_order, open_next_law};
+pub use order::{in_order, open_next};
 pub use sound::word_sound;
 
 // The widths of a page, as words of a record are compared with them, and where the root is.

@@ -6,7 +6,7 @@ use bit_ops::bits;
 use records::Record;
 
 // The transactions begun and not ended, after one more record.
-pub fn open_next_law(m: u32, r: Record) -> u32
+pub fn open_next(m: u32, r: Record) -> u32
     requires { r.txn < txn_count }
     ensures { result ≡ open_next m r }
 {

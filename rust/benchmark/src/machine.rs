@@ -12,7 +12,7 @@ pub fn describe(sync_time: f64) -> Vec<(&'static str, String)> {
         ("system", format!("Linux {}", kernel())),
         (
             "library",
-            format!("`rt staticlib`, {}, compiled for x86-64 without extensions", first_word("rt", &["version"])),
+            format!("`rt lib`, {}, compiled for x86-64 without extensions", first_word("rt", &["version"])),
         ),
         ("model, floor", format!("{}, release without overflow checks", output("rustc", &["--version"]))),
         ("SQLite", crate::sqlite::version()),

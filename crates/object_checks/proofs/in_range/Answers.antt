@@ -1,0 +1,4 @@
+use Rattle.object_checks.proofs.in_range.Goals as goal
+
+pub returns : goal.returns
+returns c = cc

@@ -1,0 +1,19 @@
+use mathlib.Core.Bool.{Bool}
+use native.Mathlib.Omega.{arith}
+use Prim.Native.Nat.{◌-◌}
+use mathlib.Core.Path.{ap, ◌∙◌}
+use mathlib.Core.List.{[]}
+use lib.ListN.{get_or}
+use Rattle.words.specs.Tests.{if}
+use Rattle.page_rows.specs.TableLaws.{zero_row, freed_row, freed_rows, tab_none, tab_next, tab_end}
+use Rattle.page_rows.proofs.rows.freed_rows.Goals as goal
+
+pub loop-s-init : goal.loop-s-init
+loop-s-init c = (omega arith, tab_none _ _)
+
+pub loop-s-preserved : goal.loop-s-preserved
+loop-s-preserved c = let a = c.args in let s = c.loop-s.s in (omega arith, tab_next (freed_row a.t a.m) s a.t [] _ _ c.loop-s.invariant.1 (c.kept_row.ensures ∙ ap (λ (b : Bool). if b zero_row (get_or a.t s [])) c.has_bit.ensures) (omega arith))
+
+pub returns : goal.returns
+unfolding freed_rows
+returns c = tab_end _ _ _ _ _ c.loop-s.invariant.1 (omega arith) (omega arith)

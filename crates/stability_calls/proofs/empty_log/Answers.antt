@@ -1,0 +1,12 @@
+use mathlib.Core.Path.{sym, ◌∙◌}
+use borrow.Author.Tests.{not-true, not-false}
+use Rattle.areas.specs.Entry.{called_malformed}
+use Rattle.calls.specs.Stability.{call_empty}
+use Rattle.stability_calls.proofs.empty_log.Goals as goal
+
+pub returns-then-not-well_formed : goal.returns-then-not-well_formed
+unfolding call_empty
+returns-then-not-well_formed c = called_malformed _ _ _ _ _ (sym c.well_formed-2.ensures ∙ not-true _ c.if-not-well_formed.true-raw)
+
+pub held_empty_log-requires : goal.held_empty_log-requires
+held_empty_log-requires c = sym c.well_formed-2.ensures ∙ not-false _ c.if-not-well_formed.false-raw
