@@ -39,4 +39,5 @@ module _ (s : Areas) (n p : ℕ) where
 
   -- locked or not
   pub freed_none : unmarked_map s.work n p ≡ 0 → freed_map s n p ≡ 0
-  freed_none z = by_bool (locked s.work n p) (λ h. freed_skipped h) (λ h. freed_open h ∙ none_garbage z)
+  unfolding freed_map
+  freed_none z = by_bool (locked s.work n p) (λ h. if_t _ _ _ h) (λ h. freed_open h ∙ none_garbage z)
