@@ -9,11 +9,8 @@ loop-p-init c = (omega arith, grey_same _ _ (grey_none _ _) (omega arith))
 pub page_greys-requires : goal.page_greys-requires
 page_greys-requires c = (c.requires, c.loop-p-test.true, c.loop-p.invariant.1)
 
-pub returns-then-page_greys-ne0 : goal.returns-then-page_greys-ne0
-returns-then-page_greys-ne0 c = c.loop-p.invariant
-
 pub loop-p-preserved : goal.loop-p-preserved
-loop-p-preserved c = (omega arith, grey_same _ _ (c.page_greys.ensures c.if-page_greys-ne0.false) (omega arith))
+loop-p-preserved c = (omega arith, grey_same _ _ (c.page_greys.ensures (omega arith)) (omega arith))
 
 pub returns : goal.returns
 returns c = (omega arith, grey_same _ _ c.loop-p.invariant.1 (omega arith))

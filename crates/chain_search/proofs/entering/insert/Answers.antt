@@ -1,7 +1,6 @@
 use native.Mathlib.Omega.{arith}
 use Rattle.chain_search.proofs.Inserting.{moved_none, moved_next, inserted}
 use Rattle.chain_search.proofs.entering.insert.Goals as goal
-use Rattle.chain_search.proofs.entering.insert.Goals.{else-loop-k-test, then-loop-k-test+then-y-x}
 
 pub loop-k-init : goal.loop-k-init
 loop-k-init c = (c.requires.0, omega arith, moved_none _ _ _)
@@ -10,4 +9,4 @@ pub loop-k-preserved : goal.loop-k-preserved
 loop-k-preserved c = let i = c.loop-k.invariant in (omega arith, omega arith, moved_next _ _ _ _ _ i.2 (omega arith) (omega arith) i.1 (omega arith))
 
 pub returns : goal.returns
-returns c = let i = c.loop-k.invariant in inserted _ _ _ _ _ i.2 (omega arith) _ i.0 i.1 (λ l. elim c.loop-k-test.branch [ else-loop-k-test w ↦ absurd (let h = w.loop-k-test.false in omega arith) | then-loop-k-test+then-y-x w ↦ w.if-y-x.true ])
+returns c = let i = c.loop-k.invariant in inserted _ _ _ _ _ i.2 (omega arith) _ i.0 i.1 (λ l. grind (arith, c.loop-k-test.branch))
