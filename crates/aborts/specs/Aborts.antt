@@ -1,5 +1,5 @@
 -- The check of an abort, the restored copies and its outcome, of the lists that the code has. n is the number of pages. Assumes nothing.
-use Rattle.std.specs.Prelude.{ℕ, ◌+◌, ◌*◌, ◌/◌, ◌<◌, ◌≤◌, ◌≡◌, refl, true, false, List, [], ◌∷◌, length, get_or, set}
+use Rattle.std.specs.Prelude.{ℕ, ◌+◌, ◌*◌, ◌/◌, ◌<◌, ◌≤◌, ◌≡◌, refl, true, false, List, [], ◌∷◌, length, get_or, set, Ok, Err}
 use Rattle.std.proofs.Common.{sym, ◌∙◌, add-one, arith, lt-ltb, le-ltb}
 use Rattle.std.proofs.Math.Path.{ap}
 use Rattle.words.specs.Tests.{if}
@@ -8,10 +8,7 @@ use Rattle.pages.specs.Objects.{copied_page}
 use Rattle.records.specs.Records.{txn_count, record_at, recorded, aborted_of}
 use Rattle.records.specs.Effects.{effect, undoing}
 use Rattle.areas.specs.declared.Refusal.TheVariants.{OutOfRange, WrongState, LogFull}
-use Rattle.areas.specs.declared.Check.{Check}
-use Rattle.areas.specs.declared.Check.TheVariants.{Accept, Refuse}
-use Rattle.areas.specs.declared.Answer.TheVariants.{Done}
-use Rattle.areas.specs.Answers.{verdict, all_passed, need_holds, need_fails}
+use Rattle.areas.specs.Answers.{verdict, all_passed, need_holds, need_fails, Check}
 use Rattle.areas.specs.Areas.{Areas, Out, areas, out, received_count, with_copies, with_work, appended}
 use Rattle.areas.specs.Tables.{is_active, can_write}
 use Rattle.calls.specs.Room.{room_within}
@@ -27,27 +24,27 @@ unfolding abort_tests
 abort_as s c r g k w n t e = e
 
 module _ (s : Areas) (n t : ℕ) where
-  pub abort_outside : txn_count ≤ t → Refuse OutOfRange ≡ verdict (abort_tests s n t)
+  pub abort_outside : txn_count ≤ t → Err OutOfRange ≡ verdict (abort_tests s n t)
   unfolding abort_tests
   abort_outside h = need_fails _ _ _ _ (le-ltb t txn_count h)
 
   module _ (h : t < txn_count) where
-    pub abort_inactive : is_active s.work t ≡ false → Refuse WrongState ≡ verdict (abort_tests s n t)
+    pub abort_inactive : is_active s.work t ≡ false → Err WrongState ≡ verdict (abort_tests s n t)
     unfolding abort_tests
     abort_inactive a = need_fails _ _ _ _ a ∙ need_holds _ _ _ _ (lt-ltb t txn_count h)
 
     -- left: what the code found
     module _ (a : is_active s.work t ≡ true) {left : ℕ} (e : left ≡ length (changes_of s n t)) where
-      pub abort_passes : room_within s (left + 1) ≡ true → Accept ≡ verdict (abort_tests s n t)
+      pub abort_passes : room_within s (left + 1) ≡ true → Ok tt ≡ verdict (abort_tests s n t)
       unfolding abort_tests
       abort_passes b = all_passed ∙ need_holds _ _ _ _ (ap (λ (x : ℕ). room_within s (x + 1)) (sym e) ∙ b) ∙ need_holds _ _ _ _ a ∙ need_holds _ _ _ _ (lt-ltb t txn_count h)
 
-      pub abort_full : room_within s (left + 1) ≡ false → Refuse LogFull ≡ verdict (abort_tests s n t)
+      pub abort_full : room_within s (left + 1) ≡ false → Err LogFull ≡ verdict (abort_tests s n t)
       unfolding abort_tests
       abort_full b = need_fails _ _ _ _ (ap (λ (x : ℕ). room_within s (x + 1)) (sym e) ∙ b) ∙ need_holds _ _ _ _ a ∙ need_holds _ _ _ _ (lt-ltb t txn_count h)
 
 -- what the code that makes the change needs of an abort whose tests passed
-pub abort_ready : (s : Areas) (n t : ℕ) → Open s n → verdict (abort_tests s n t) ≡ Accept →
+pub abort_ready : (s : Areas) (n t : ℕ) → Open s n → verdict (abort_tests s n t) ≡ Ok tt →
     Undoable s.received s.log s.counts s.work n t × ((0 < n) × (page_words * n ≤ length s.received) × (page_words * n ≤ length s.copies))
 abort_ready s n t o h =
     let f = abort_facts s n t h in
@@ -84,13 +81,13 @@ ended_from c w n t z = let a = appended z (aborted_of t) in with_work (with_copi
 
 -- .. as the code leaves the pages, the log and the counts of b
 abbrev ended_as : List ℕ → List ℕ → List ℕ → ℕ → ℕ → Areas → Out
-ended_as s c w n t b = out (Done (received_count b)) s (restored w n t b.received c n) b.received b.log b.counts (ended_tables w n t)
+ended_as s c w n t b = out (Ok (received_count b)) s (restored w n t b.received c n) b.received b.log b.counts (ended_tables w n t)
 
 -- the outcome
 module _ (s c a g k w : List ℕ) (n t x : ℕ) (c' a' g' k' w' : List ℕ) where
   pub aborted_out :
       (areas [] [] a' g' k' [] ≡ appended (rolled_back g (left_in g k w n t) (areas [] [] a g k [])) (aborted_of t)) × (x ≡ get_or k' 0 0) →
-      c' ≡ restored w n t a' c n → w' ≡ ended_tables w n t → out (Done x) s c' a' g' k' w' ≡ counted (aborted (areas s c a g k w) n t)
+      c' ≡ restored w n t a' c n → w' ≡ ended_tables w n t → out (Ok x) s c' a' g' k' w' ≡ counted (aborted (areas s c a g k w) n t)
   unfolding aborted appended
   aborted_out e hc hw =
       rw (e.1, hc, hw) (ap (ended_as s c w n t) e.0)

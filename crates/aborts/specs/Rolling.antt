@@ -1,7 +1,7 @@
 -- A transaction's changes undone, newest first, by a walk down the log that appends to the log it reads. n is the number of pages, w the
 -- working tables. Assumes nothing.
 use Prim.Native.Nat.{ℕ, suc, ◌+◌, ◌*◌, ◌-◌, ◌/◌, ◌<◌, ◌≤◌}
-use Rattle.std.specs.Prelude.{◌≡◌, true, set}
+use Rattle.std.specs.Prelude.{◌≡◌, true, set, Option, Some, None}
 use Rattle.std.proofs.Math.Path.{refl, ap}
 use Rattle.std.proofs.Common.{sym, ◌∙◌, arith}
 use mathlib.Core.List.{List, [], ◌∷◌}
@@ -15,8 +15,6 @@ use Rattle.records.specs.Effects.{effect, undoing}
 use Rattle.records.specs.Soundness.{record_sound, records_sound}
 use Rattle.record_laws.specs.RecordLaws.{Agree, recorded_other, records_sound_at}
 use Rattle.record_laws.specs.SoundRecords.{undoing_sound, aborted_sound}
-use Rattle.log_turns.specs.declared.Turn.{Turn}
-use Rattle.log_turns.specs.declared.Turn.TheVariants.{Left, Past}
 use Rattle.record_ops.specs.InRange.{sound_in_range}
 use Rattle.log_turns.specs.Turns.{turn_at, below, left_tells, past_tells, below_all, below_some, below_left, below_past}
 use Rattle.areas.specs.Areas.{Areas, count_words, areas, appended}
@@ -91,11 +89,11 @@ module _ (a₀ g₀ k₀ w : List ℕ) (n t : ℕ) where
         (omega arith, omega arith, omega arith, omega arith)
 
     -- one turn, as the code makes it: r is the record that it read, x the turn
-    module _ (r : Record) (read : r ≡ record_at g (i - 1)) (x : Turn) (ex : x ≡ turn_at (undoes w n (i - 1)) r t p) where
+    module _ (r : Record) (read : r ≡ record_at g (i - 1)) (x : Option ℕ) (ex : x ≡ turn_at (undoes w n (i - 1)) r t p) where
       same : r ≡ record_at g₀ (i - 1)
       same = let q = rolling_some in let f = s.few in read ∙ s.before (i - 1) (omega arith)
 
-      turn : (y : Turn) → x ≡ y → turn_at (undoes w n (i - 1)) (record_at g₀ (i - 1)) t p ≡ y
+      turn : (y : Option ℕ) → x ≡ y → turn_at (undoes w n (i - 1)) (record_at g₀ (i - 1)) t p ≡ y
       turn y e = ap (λ (q : Record). turn_at (undoes w n (i - 1)) q t p) (sym same) ∙ sym ex ∙ e
 
       -- i, as the laws name it
@@ -105,14 +103,14 @@ module _ (a₀ g₀ k₀ w : List ℕ) (n t : ℕ) where
       more : 0 < length (rest a₀ g₀ k₀ w n t ((i - 1) + 1) p)
       more = rw (← top) down
 
-      left_next : x ≡ Left → rest a₀ g₀ k₀ w n t i p ≡ (i - 1) ∷ rest a₀ g₀ k₀ w n t (i - 1) p
-      left_next e = ap (λ (j : ℕ). rest a₀ g₀ k₀ w n t j p) top ∙ below_left (undoes w n) g₀ (get_or k₀ 0 0) t (i - 1) p more (turn Left e)
+      left_next : x ≡ None → rest a₀ g₀ k₀ w n t i p ≡ (i - 1) ∷ rest a₀ g₀ k₀ w n t (i - 1) p
+      left_next e = ap (λ (j : ℕ). rest a₀ g₀ k₀ w n t j p) top ∙ below_left (undoes w n) g₀ (get_or k₀ 0 0) t (i - 1) p more (turn None e)
 
-      past_next : (q : ℕ) → x ≡ Past q → rest a₀ g₀ k₀ w n t i p ≡ rest a₀ g₀ k₀ w n t (i - 1) q
-      past_next q e = ap (λ (j : ℕ). rest a₀ g₀ k₀ w n t j p) top ∙ below_past (undoes w n) g₀ (get_or k₀ 0 0) t (i - 1) p more q (turn (Past q) e)
+      past_next : (q : ℕ) → x ≡ Some q → rest a₀ g₀ k₀ w n t i p ≡ rest a₀ g₀ k₀ w n t (i - 1) q
+      past_next q e = ap (λ (j : ℕ). rest a₀ g₀ k₀ w n t j p) top ∙ below_past (undoes w n) g₀ (get_or k₀ 0 0) t (i - 1) p more q (turn (Some q) e)
 
       -- a record passed over
-      pub rolling_past : (q : ℕ) → x ≡ Past q → Rolling a₀ g₀ k₀ w n t a g k (i - 1) left q
+      pub rolling_past : (q : ℕ) → x ≡ Some q → Rolling a₀ g₀ k₀ w n t a g k (i - 1) left q
       rolling_past q e =
           let d = rolling_some in
           let f = s.few in
@@ -130,7 +128,7 @@ module _ (a₀ g₀ k₀ w : List ℕ) (n t : ℕ) where
           }
 
       -- a change undone, by the record v
-      module _ (v : Record) (ev : v ≡ undoing r) (e : x ≡ Left) where
+      module _ (v : Record) (ev : v ≡ undoing r) (e : x ≡ None) where
         pub rolling_fits : Fits a g k v
         rolling_fits =
             let d = rolling_some in

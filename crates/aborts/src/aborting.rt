@@ -1,6 +1,5 @@
-ghost use Rattle.std.specs.Prelude.{◌≡◌, List, [], ℕ, ◌*◌, ◌<◌, ◌≤◌, length, get_or};
+ghost use Rattle.std.specs.Prelude.{◌≡◌, List, [], ℕ, ◌*◌, ◌<◌, ◌≤◌, length, get_or, Ok};
 ghost use Rattle.pages.specs.Geometry.{page_words};
-ghost use Rattle.areas.specs.declared.Answer.TheVariants.{Done};
 ghost use Rattle.areas.specs.Answers.{verdict};
 ghost use Rattle.areas.specs.Areas.{areas, out};
 ghost use Rattle.areas.specs.Layout.{HasUndoing};
@@ -20,16 +19,16 @@ pub fn abort_check(log: &[u32], counts: &[u32], work: &[u32], n: usize, t: u32) 
     ensures { result ≡ verdict (abort_tests (areas [] [] [] log.now counts.now work.now) n t) }
 {
     if TXNS <= t {
-        return Check::Refuse(Refusal::OutOfRange);
+        return Err(Refusal::OutOfRange);
     }
     if !store_ops::has(work, layout::ACTIVE_AT, t) {
-        return Check::Refuse(Refusal::WrongState);
+        return Err(Refusal::WrongState);
     }
     let left = log_ops::changes_left(log, counts, work, n, t);
     if transactions::room_within(log, counts, left as usize + 1) {
-        Check::Accept
+        Ok(())
     } else {
-        Check::Refuse(Refusal::LogFull)
+        Err(Refusal::LogFull)
     }
 }
 
@@ -45,7 +44,7 @@ pub fn abort_apply(
 ) -> u32
     requires undoable { Undoable received.old log.old counts.old work.old n t }
     requires n_nonzero { (0 < n) × (page_words * n ≤ length received.old) × (page_words * n ≤ length copies.old) }
-    ensures { (s : List ℕ) → out (Done result) s copies.new received.new log.new counts.new work.new ≡ counted (aborted (areas s copies.old received.old log.old counts.old work.old) n t) }
+    ensures { (s : List ℕ) → out (Ok result) s copies.new received.new log.new counts.new work.new ≡ counted (aborted (areas s copies.old received.old log.old counts.old work.old) n t) }
 {
     let c = abort_log(received, log, counts, work, n, t);
     restore(work, received, copies, n, t);

@@ -6,7 +6,6 @@ ghost use Rattle.log_ops.specs.Logs.{left_in};
 ghost use Rattle.aborts.specs.Rolling.{Undoable};
 
 use areas::layout;
-use log_turns::Turn;
 
 // Appends, newest first, the undoing record of each change of t that is left: down the log until there is none.
 fn roll_back(
@@ -23,16 +22,17 @@ fn roll_back(
     let mut i = counts[layout::RECEIVED] as usize;
     let mut left = log_ops::changes_left(log, counts, work, n, t);
     let mut undone: u32 = 0;
+    // A range over the records would end the walk a second time: it ends where nothing is left, above the first record.
     while 0 < left {
         i -= 1;
         let r = log_reader::record_at(log, i);
         let turn = log_turns::turn_at(r, work[layout::undoing_at(n, i)], t, undone);
         match turn {
-            Turn::Left => {
+            None => {
                 let _ = log_ops::append(received, log, counts, record_ops::undoing(r));
                 left -= 1;
             }
-            Turn::Past(p) => undone = p,
+            Some(p) => undone = p,
         }
     }
 }

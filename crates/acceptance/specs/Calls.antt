@@ -1,9 +1,7 @@
 -- 'Refused calls change nothing', of every call, of format and of a read's buffer. Assumes nothing.
-use Rattle.std.specs.Prelude.{ℕ, ◌≡◌, refl, false, List}
+use Rattle.std.specs.Prelude.{ℕ, ◌≡◌, refl, false, List, Ok, Err}
 use Rattle.words.specs.Tests.{clash}
-use Rattle.areas.specs.declared.Answer.{Answer}
-use Rattle.areas.specs.declared.Answer.TheVariants.{Done, Refused}
-use Rattle.areas.specs.Answers.{accepted, verdict}
+use Rattle.areas.specs.Answers.{accepted, verdict, Answer}
 use Rattle.areas.specs.Areas.{Areas, done}
 use Rattle.areas.specs.Entry.{pages, records}
 use Rattle.calls.specs.Formatting.{formatted, format_tests, call_format}
@@ -23,7 +21,7 @@ use Rattle.acceptance.specs.Reopening.{reopen_keeps, restep_outcome}
 use Rattle.acceptance.specs.Marks.{mark_outcome, back_outcome}
 use Rattle.acceptance.specs.Looks.{look_outcome}
 
--- accepted (perform s c).answer ≡ false → perform s c .after ≡ s
+-- accepted (perform s c).answer ≡ false → (perform s c).after ≡ s
 pub refused_keeps : (s : Areas) (c : Call) → Keeps s (perform s c)
 unfolding perform
 refused_keeps s (begin t c) = (begin_outcome s t c).keeps
@@ -52,8 +50,8 @@ unfolding call_format
 format_keeps s = let new = formatted (pages s) (records s) in checked_keeps (verdict (format_tests s)) s (done 0 new) (done_keeps s 0 new)
 
 buffer_by : (a : Answer) (words buffer : List ℕ) → accepted a ≡ false → if_accepted a words buffer ≡ buffer
-buffer_by (Done v) words buffer e = clash refl e
-buffer_by (Refused x) words buffer e = refl
+buffer_by (Ok v) words buffer e = clash refl e
+buffer_by (Err x) words buffer e = refl
 
 pub buffer_keeps : (s : Areas) (t o : ℕ) (buffer : List ℕ) → accepted (call_read s t o buffer).answer ≡ false → buffer_after s t o buffer ≡ buffer
 unfolding buffer_after

@@ -1,6 +1,6 @@
 -- Document 01, refusals 1 and 2: what a call that they do not stop knows of the areas, and how they are computed. Assumes nothing.
 use Rattle.std.specs.Prelude.{ℕ, ◌≡◌, refl, Bool, true, false, not, ◌&&◌, ◌||◌, eqb}
-use Rattle.std.proofs.Common.{sym, ap, ◌∙◌, arith, eqb-true, eq-eqb, ne_eqb}
+use Rattle.std.proofs.Common.{sym, ◌∙◌, arith, eqb-true, eq-eqb, ne_eqb}
 use Rattle.words.specs.Tests.{if, if_t, if_f, and_split, and_t, and_f, clash}
 use Rattle.areas.specs.Areas.{Areas}
 use Rattle.areas.specs.Layout.{finished}

@@ -1,5 +1,5 @@
 -- Document 01, refusal 1: what lengths that fit say, in numbers. Assumes nothing.
-use Rattle.std.specs.Prelude.{ℕ, ◌+◌, ◌*◌, ◌/◌, ◌≤◌, ◌≡◌, true, ◌&&◌, length, leb, eqb}
+use Rattle.std.specs.Prelude.{ℕ, ◌*◌, ◌/◌, ◌≤◌, ◌≡◌, true, ◌&&◌, length, leb, eqb}
 use Rattle.std.proofs.Common.{◌∙◌, arith, leb-true, eqb-true}
 use Rattle.words.specs.Tests.{and_split}
 use Rattle.pages.specs.Geometry.{page_words, max_pages}

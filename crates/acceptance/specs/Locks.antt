@@ -1,10 +1,9 @@
 -- Document 01, 'Calls': what an accepted lock for reading or writing knows; document 02, L9: its right. n is the number of pages. Assumes nothing.
-use Rattle.std.specs.Prelude.{ℕ, ◌<◌, ◌≡◌, true}
+use Rattle.std.specs.Prelude.{ℕ, ◌<◌, ◌≡◌, true, Ok}
 use Rattle.std.proofs.Common.{ltb-true, eqb-true}
 use Rattle.words.specs.Tests.{and_split}
 use Rattle.words.specs.Bits.{without_bit}
 use Rattle.records.specs.Records.{txn_count}
-use Rattle.areas.specs.declared.Check.TheVariants.{Accept}
 use Rattle.areas.specs.Answers.{verdict, passed}
 use Rattle.areas.specs.Areas.{Areas, done, with_work}
 use Rattle.areas.specs.Layout.{readers_at, writers_at, reading, writing}
@@ -21,7 +20,7 @@ pub record LockReadFacts (s : Areas) (n t p : ℕ) : Type 0 where
   pub right : may_lock s.work n t p reading ≡ true
   pub no_writer_law : without_bit (at s.work (writers_at n p)) t ≡ 0
 
-pub lock_read_facts : (s : Areas) (n t p : ℕ) → verdict (lock_read_tests s n t p) ≡ Accept → LockReadFacts s n t p
+pub lock_read_facts : (s : Areas) (n t p : ℕ) → verdict (lock_read_tests s n t p) ≡ Ok tt → LockReadFacts s n t p
 unfolding lock_read_tests
 lock_read_facts s n t p h =
     let r = and_split _ _ (passed _ 0 h) in
@@ -41,7 +40,7 @@ pub record LockWriteFacts (s : Areas) (n t p : ℕ) : Type 0 where
   pub no_reader_law : without_bit (at s.work (readers_at n p)) t ≡ 0
   pub no_writer_law : without_bit (at s.work (writers_at n p)) t ≡ 0
 
-pub lock_write_facts : (s : Areas) (n t p : ℕ) → verdict (lock_write_tests s n t p) ≡ Accept → LockWriteFacts s n t p
+pub lock_write_facts : (s : Areas) (n t p : ℕ) → verdict (lock_write_tests s n t p) ≡ Ok tt → LockWriteFacts s n t p
 unfolding lock_write_tests
 lock_write_facts s n t p h =
     let r = and_split _ _ (passed _ 0 h) in

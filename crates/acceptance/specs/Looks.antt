@@ -1,6 +1,6 @@
 -- A call that only looks changes no word, accepted or refused. Assumes nothing.
-use Rattle.std.specs.Prelude.{ℕ, ◌≡◌, true, false}
-use Rattle.std.proofs.Common.{ap, ◌∙◌}
+use Rattle.std.specs.Prelude.{◌≡◌, true}
+use Rattle.std.proofs.Common.{ap}
 use Rattle.words.specs.Tests.{by_bool}
 use Rattle.areas.specs.Answers.{accepted}
 use Rattle.areas.specs.Areas.{Areas, Out, done}

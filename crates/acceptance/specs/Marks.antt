@@ -1,10 +1,9 @@
 -- Document 02, L3: what an accepted mark and an accepted going back know. n is the number of pages. Assumes nothing.
-use Rattle.std.specs.Prelude.{ℕ, ◌+◌, ◌<◌, ◌≤◌, ◌≡◌, true, length}
+use Rattle.std.specs.Prelude.{ℕ, ◌+◌, ◌<◌, ◌≤◌, ◌≡◌, true, length, Ok}
 use Rattle.std.proofs.Common.{ltb-true, leb-true}
 use Rattle.std.proofs.lemmas.Bool.{eqb-false, not-true}
 use Rattle.words.specs.Tests.{and_split}
 use Rattle.records.specs.Records.{txn_count}
-use Rattle.areas.specs.declared.Check.TheVariants.{Accept}
 use Rattle.areas.specs.Answers.{verdict, passed}
 use Rattle.areas.specs.Areas.{Areas, done, received_count}
 use Rattle.areas.specs.Layout.{mark_count}
@@ -18,7 +17,7 @@ pub record MarkFacts (s : Areas) (t m : ℕ) : Type 0 where
   pub mark : m < mark_count
   pub active : is_active s.work t ≡ true
 
-pub mark_facts : (s : Areas) (t m : ℕ) → verdict (mark_tests s t m) ≡ Accept → MarkFacts s t m
+pub mark_facts : (s : Areas) (t m : ℕ) → verdict (mark_tests s t m) ≡ Ok tt → MarkFacts s t m
 unfolding mark_tests
 mark_facts s t m h =
     let p = and_split (is_txn t) (is_mark m) (passed _ 0 h) in
@@ -35,7 +34,7 @@ pub record BackFacts (s : Areas) (n t m : ℕ) : Type 0 where
   pub marked : order_of s.work n t m ≡ 0 → ⊥
   pub room : received_count s + length (since_mark s n t m) ≤ records s
 
-pub back_facts : (s : Areas) (n t m : ℕ) → verdict (back_tests s n t m) ≡ Accept → BackFacts s n t m
+pub back_facts : (s : Areas) (n t m : ℕ) → verdict (back_tests s n t m) ≡ Ok tt → BackFacts s n t m
 unfolding back_tests
 back_facts s n t m h =
     let p = and_split (is_txn t) (is_mark m) (passed _ 0 h) in

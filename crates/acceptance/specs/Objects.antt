@@ -1,5 +1,5 @@
 -- Document 01, 'Calls': what an accepted read, create, set and flush know. n is the number of pages. Assumes nothing.
-use Rattle.std.specs.Prelude.{ℕ, ◌*◌, ◌<◌, ◌≤◌, ◌≡◌, refl, Bool, true, false, not, ◌&&◌, ◌||◌, ◌⊎◌, List, length, leb, ltb, eqb}
+use Rattle.std.specs.Prelude.{ℕ, ◌<◌, ◌≤◌, ◌≡◌, refl, Bool, true, false, not, ◌&&◌, ◌||◌, ◌⊎◌, List, length, leb, ltb, eqb, Ok}
 use Rattle.std.proofs.Common.{inl, inr, arith, ltb-true, leb-true, eqb-true}
 use Rattle.std.proofs.lemmas.Bool.{not-true}
 use Rattle.words.specs.Tests.{if, and_split, or_cases, clash}
@@ -8,7 +8,6 @@ use Rattle.pages.specs.Objects.{occupied, word_of}
 use Rattle.pages.specs.Images.{agrees}
 use Rattle.records.specs.Records.{txn_count}
 use Rattle.calls.specs.Room.{change_room}
-use Rattle.areas.specs.declared.Check.TheVariants.{Accept}
 use Rattle.areas.specs.Answers.{verdict, passed}
 use Rattle.areas.specs.Areas.{Areas, done, received_count, with_work}
 use Rattle.areas.specs.Layout.{known_at}
@@ -49,7 +48,7 @@ pub record ReadFacts (s : Areas) (n t o : ℕ) : Type 0 where
   pub lock : can_read s.work n t (page_of o) ≡ true
   pub known : knows s.work n t o ≡ true
 
-pub read_facts : (s : Areas) (n t o : ℕ) → verdict (read_tests s n t o) ≡ Accept → ReadFacts s n t o
+pub read_facts : (s : Areas) (n t o : ℕ) → verdict (read_tests s n t o) ≡ Ok tt → ReadFacts s n t o
 unfolding read_tests
 read_facts s n t o h =
     let r = and_split (is_txn t) (is_object n o) (passed _ 0 h) in
@@ -69,7 +68,7 @@ pub record CreateFacts (s : Areas) (n t o : ℕ) : Type 0 where
   pub free : occupied s.received o ≡ false
   pub room : Room s n change_room
 
-pub create_facts : (s : Areas) (n t o : ℕ) → verdict (create_tests s n t o) ≡ Accept → CreateFacts s n t o
+pub create_facts : (s : Areas) (n t o : ℕ) → verdict (create_tests s n t o) ≡ Ok tt → CreateFacts s n t o
 unfolding create_tests
 create_facts s n t o h =
     let r = and_split (is_txn t) (is_object n o) (passed _ 0 h) in
@@ -103,7 +102,7 @@ may_cases : (ref : Bool) (v : ℕ) (known : Bool) → not ref || eqb v 0 || know
 may_cases true v known h e = elim (or_cases (eqb v 0) known h) [ inl z ↦ inl (eqb-true v 0 z) | inr k ↦ inr k ]
 may_cases false v known h e = clash e refl
 
-pub set_facts : (s : Areas) (n t o f v : ℕ) → verdict (set_tests s n t o f v) ≡ Accept → SetFacts s n t o f v
+pub set_facts : (s : Areas) (n t o f v : ℕ) → verdict (set_tests s n t o f v) ≡ Ok tt → SetFacts s n t o f v
 unfolding set_tests
 set_facts s n t o f v h =
     let r = and_split (is_txn t && is_object n o) (ltb f slot_words) (passed _ 0 h) in
@@ -133,7 +132,7 @@ pub record FlushFacts (s : Areas) (n t p : ℕ) (image : List ℕ) : Type 0 wher
   pub lock : can_write s.work n t p ≡ true
   pub agree : agrees image s.received p ≡ true
 
-pub flush_facts : (s : Areas) (n t p : ℕ) (image : List ℕ) → verdict (flush_tests s n t p image) ≡ Accept → FlushFacts s n t p image
+pub flush_facts : (s : Areas) (n t p : ℕ) (image : List ℕ) → verdict (flush_tests s n t p image) ≡ Ok tt → FlushFacts s n t p image
 unfolding flush_tests
 flush_facts s n t p image h =
     let r = and_split _ _ (passed _ 0 h) in

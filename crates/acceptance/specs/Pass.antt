@@ -1,11 +1,10 @@
 -- Document 01, 'The pass': what an accepted pass and pass step know. n is the number of pages. Assumes nothing.
-use Rattle.std.specs.Prelude.{ℕ, ◌*◌, ◌≡◌, refl, Bool, true, false, ◌⊎◌, leb, eqb}
+use Rattle.std.specs.Prelude.{ℕ, ◌≡◌, refl, Bool, true, false, ◌⊎◌, leb, eqb, Ok}
 use Rattle.std.proofs.Common.{sym, ap, ◌∙◌, inl, inr, eqb-true}
 use Rattle.std.proofs.lemmas.Bool.{eqb-false, not-true}
 use Rattle.words.specs.Tests.{if, if_t, if_f, by_bool, or_cases, clash}
 use Rattle.words.specs.Bits.{slots_set}
 use Rattle.pages.specs.Geometry.{object_count}
-use Rattle.areas.specs.declared.Check.TheVariants.{Accept}
 use Rattle.areas.specs.Answers.{accepted, verdict, passed}
 use Rattle.areas.specs.Areas.{Areas, Out, done, with_work}
 use Rattle.areas.specs.Layout.{phase_at, pass_page_at}
@@ -25,7 +24,7 @@ pass_outcome s = outcome_done _ _ _ _ (λ n. 0) (λ n. with_work s (pass_started
 pub record StepFacts (s : Areas) : Type 0 where
   pub one_runs : at s.work phase_at ≡ 0 → ⊥
 
-pub step_facts : (s : Areas) → verdict (step_tests s) ≡ Accept → StepFacts s
+pub step_facts : (s : Areas) → verdict (step_tests s) ≡ Ok tt → StepFacts s
 unfolding step_tests
 step_facts s h = record { one_runs = eqb-false _ _ (not-true _ (passed _ 0 h)) }
 
@@ -73,7 +72,7 @@ sweep_room_law : (s : Areas) (n m : ℕ) → (eqb m 0 ≡ true) ⊎ (room_beyond
 sweep_room_law s n m (inl z) no0 = absurd (no0 (eqb-true m 0 z))
 sweep_room_law s n m (inr r) no0 = room_facts s n sweep_room r
 
-pub sweep_facts : (s : Areas) (n m : ℕ) → verdict (sweep_tests s n m) ≡ Accept → SweepFacts s n m
+pub sweep_facts : (s : Areas) (n m : ℕ) → verdict (sweep_tests s n m) ≡ Ok tt → SweepFacts s n m
 unfolding sweep_tests
 sweep_facts s n m h = record { room = sweep_room_law s n m (or_cases (eqb m 0) (room_beyond s n sweep_room) (passed _ 0 h)) }
 
@@ -97,7 +96,7 @@ step_outcome s = outcome _ _ _ _ (stepped s) (λ n. if_keeps s (is_marking s.wor
 pub data StepWay (s : Areas) (n : ℕ) (o : Out) : Type 0 where
   scans : is_marking s.work ≡ true → leb (lowest_grey s.work n) (object_count n) ≡ true → o ≡ scanning s n → StepWay s n o
   turns : is_marking s.work ≡ true → leb (lowest_grey s.work n) (object_count n) ≡ false → o ≡ turning s n → StepWay s n o
-  sweeps : is_marking s.work ≡ false → verdict (sweep_tests s n (sweep_map_of s n)) ≡ Accept → o ≡ sweeping s n → StepWay s n o
+  sweeps : is_marking s.work ≡ false → verdict (sweep_tests s n (sweep_map_of s n)) ≡ Ok tt → o ≡ sweeping s n → StepWay s n o
 
 step_marks : (s : Areas) (n : ℕ) (o : Out) → is_marking s.work ≡ true → o ≡ marked s n → StepWay s n o
 step_marks s n o e h = by_bool (leb (lowest_grey s.work n) (object_count n)) (λ g. scans e g (h ∙ marked_scans s n g)) (λ g. turns e g (h ∙ marked_turns s n g))

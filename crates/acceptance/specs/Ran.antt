@@ -1,10 +1,8 @@
 -- What an accepted call went through, and that a refused one changes nothing, of calls in general. Assumes nothing.
-use Rattle.std.specs.Prelude.{ℕ, ◌≡◌, Bool, true, false, List}
+use Rattle.std.specs.Prelude.{ℕ, ◌≡◌, Bool, true, false, List, Ok, Err}
 use Rattle.std.proofs.Math.Path.{refl}
 use Rattle.words.specs.Tests.{clash}
-use Rattle.areas.specs.declared.Check.{Check}
-use Rattle.areas.specs.declared.Check.TheVariants.{Accept, Refuse}
-use Rattle.areas.specs.Answers.{Test, accepted, verdict, passed, passed_rest}
+use Rattle.areas.specs.Answers.{Test, accepted, verdict, passed, passed_rest, Check}
 use Rattle.areas.specs.Areas.{Areas, Out, done, checked}
 use Rattle.areas.specs.Entry.{pages, well_formed, is_ready, all_tests, called}
 
@@ -18,12 +16,12 @@ pub record Admitted (must own : Bool) (s : Areas) (n : ℕ) : Type 0 where
 pub record Ran (must own : Bool) (s : Areas) (tests : ℕ → List Test) (o : Out) (k : ℕ → Out) : Type 0 where
   pub n : ℕ
   pub ready : Admitted must own s n
-  pub passed : verdict (tests n) ≡ Accept
+  pub passed : verdict (tests n) ≡ Ok tt
   pub gives : o ≡ k n
 
 -- the same of a check without refusals 1 and 2
 pub record Passed (check : Check) (o k : Out) : Type 0 where
-  pub passed : check ≡ Accept
+  pub passed : check ≡ Ok tt
   pub gives : o ≡ k
 
 -- 'Refused calls change nothing'
@@ -39,12 +37,12 @@ pub record Outcome (must own : Bool) (s : Areas) (tests : ℕ → List Test) (o 
   pub keeps : Keeps s o
 
 pub checked_ran : (check : Check) (s : Areas) (k : Out) → accepted (checked check s k).answer ≡ true → Passed check (checked check s k) k
-checked_ran Accept s k h = record { passed = refl; gives = refl }
-checked_ran (Refuse x) s k h = clash h refl
+checked_ran (Ok tt) s k h = record { passed = refl; gives = refl }
+checked_ran (Err x) s k h = clash h refl
 
 pub checked_keeps : (check : Check) (s : Areas) (k : Out) → Keeps s k → Keeps s (checked check s k)
-checked_keeps Accept s k h = h
-checked_keeps (Refuse x) s k h = λ e. refl
+checked_keeps (Ok tt) s k h = h
+checked_keeps (Err x) s k h = λ e. refl
 
 -- of every call in the frame
 module _ (must own : Bool) (s : Areas) (tests : ℕ → List Test) where

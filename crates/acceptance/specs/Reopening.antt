@@ -1,11 +1,10 @@
 -- Document 01, 'Reopening' and formatting: what an accepted reopen, reopening step and format know. Assumes nothing.
-use Rattle.std.specs.Prelude.{ℕ, ◌≤◌, ◌≡◌, refl, true, false, List, leb, ltb}
+use Rattle.std.specs.Prelude.{ℕ, ◌≤◌, ◌≡◌, refl, true, false, List, leb, ltb, Ok}
 use Rattle.std.proofs.Common.{leb-true, eqb-true}
 use Rattle.words.specs.Tests.{if, all, and_split}
 use Rattle.pages.specs.Soundness.{area_sound, free_zero}
 use Rattle.records.specs.Order.{log_sound}
 use Rattle.records.specs.Recovery.{recovered, recoverable}
-use Rattle.areas.specs.declared.Check.TheVariants.{Accept}
 use Rattle.areas.specs.Answers.{accepted, verdict, passed}
 use Rattle.areas.specs.Areas.{Areas, done, stable_count}
 use Rattle.areas.specs.Layout.{reopening_page_at, running}
@@ -33,7 +32,7 @@ pub record ReopenFacts (s : Areas) : Type 0 where
   pub stable_le : stable_count s ≤ records s
   pub recovers : recoverable (pages s) s.stored s.log (stable_count s) ≡ true
 
-pub reopen_facts : (s : Areas) → verdict (reopen_tests s) ≡ Accept → ReopenFacts s
+pub reopen_facts : (s : Areas) → verdict (reopen_tests s) ≡ Ok tt → ReopenFacts s
 unfolding reopen_tests
 reopen_facts s h =
     let r = and_split (leb (stable_count s) (records s)) (recoverable (pages s) s.stored s.log (stable_count s)) (passed _ 1 h) in
@@ -50,7 +49,7 @@ reopen_keeps s = checked_keeps (verdict (reopen_tests s)) s (done 0 (reopened s)
 pub record RestepFacts (s : Areas) : Type 0 where
   pub running : reopening s ≡ running
 
-pub restep_facts : (s : Areas) → verdict (restep_tests s) ≡ Accept → RestepFacts s
+pub restep_facts : (s : Areas) → verdict (restep_tests s) ≡ Ok tt → RestepFacts s
 unfolding restep_tests
 restep_facts s h = record { running = eqb-true _ _ (passed _ 0 h) }
 

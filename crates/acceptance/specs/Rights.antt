@@ -1,9 +1,8 @@
 -- Document 02, L9: what an accepted change of a right knows, and which is accepted. n is the number of pages. Assumes nothing.
-use Rattle.std.specs.Prelude.{ℕ, ◌<◌, ◌≤◌, ◌≡◌, true, false, not, ◌&&◌, ltb}
+use Rattle.std.specs.Prelude.{ℕ, ◌<◌, ◌≤◌, ◌≡◌, true, false, not, ◌&&◌, ltb, Ok}
 use Rattle.std.proofs.Common.{ap, ◌∙◌, ltb-true, leb-true}
 use Rattle.std.proofs.lemmas.Bool.{not-true}
 use Rattle.words.specs.Tests.{and_split}
-use Rattle.areas.specs.declared.Check.TheVariants.{Accept}
 use Rattle.areas.specs.Answers.{verdict, passed, all_passed, need_holds}
 use Rattle.areas.specs.Areas.{Areas, done, with_work}
 use Rattle.areas.specs.Layout.{client_count, writing}
@@ -16,14 +15,14 @@ pub record GrantFacts (s : Areas) (n c p r : ℕ) : Type 0 where
   pub right : r ≤ writing
   pub idle : has_active s.work n c ≡ false
 
-pub grant_facts : (s : Areas) (n c p r : ℕ) → verdict (grant_tests s n c p r) ≡ Accept → GrantFacts s n c p r
+pub grant_facts : (s : Areas) (n c p r : ℕ) → verdict (grant_tests s n c p r) ≡ Ok tt → GrantFacts s n c p r
 unfolding grant_tests
 grant_facts s n c p r h =
     let b = and_split (is_client c && ltb p n) (is_right r) (passed _ 0 h) in
     let a = and_split (is_client c) (ltb p n) b.0 in
     record { client = ltb-true _ _ a.0; page = ltb-true _ _ a.1; right = leb-true _ _ b.1; idle = not-true _ (passed _ 1 h) }
 
-pub grant_passes : (s : Areas) (n c p r : ℕ) → is_client c && ltb p n && is_right r ≡ true → has_active s.work n c ≡ false → Accept ≡ verdict (grant_tests s n c p r)
+pub grant_passes : (s : Areas) (n c p r : ℕ) → is_client c && ltb p n && is_right r ≡ true → has_active s.work n c ≡ false → Ok tt ≡ verdict (grant_tests s n c p r)
 unfolding grant_tests
 grant_passes s n c p r h f = all_passed ∙ need_holds _ _ _ _ (ap not f) ∙ need_holds _ _ _ _ h
 

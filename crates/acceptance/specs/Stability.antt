@@ -1,11 +1,10 @@
 -- Document 01, 'Calls': what an accepted force, store page and empty log know. n is the number of pages. Assumes nothing.
-use Rattle.std.specs.Prelude.{ℕ, ◌+◌, ◌<◌, ◌≤◌, ◌≡◌, true, ◌&&◌, length, get_or, set, eqb}
+use Rattle.std.specs.Prelude.{ℕ, ◌+◌, ◌<◌, ◌≤◌, ◌≡◌, true, ◌&&◌, length, get_or, set, eqb, Ok}
 use Rattle.std.proofs.Common.{ltb-true, leb-true, eqb-true}
 use Rattle.words.specs.Tests.{and_split}
 use Rattle.words.specs.Spans.{same}
 use Rattle.pages.specs.Objects.{copied_page}
 use Rattle.records.specs.Naming.{last_naming}
-use Rattle.areas.specs.declared.Check.TheVariants.{Accept}
 use Rattle.areas.specs.Answers.{verdict, passed}
 use Rattle.areas.specs.Areas.{Areas, done, received_count, stable_count, with_stored, with_counts}
 use Rattle.areas.specs.Layout.{active_at}
@@ -16,7 +15,7 @@ use Rattle.acceptance.specs.Ran.{Outcome, outcome_done}
 pub record ForceFacts (s : Areas) : Type 0 where
   pub unstable : stable_count s < received_count s
 
-pub force_facts : (s : Areas) → verdict (force_tests s) ≡ Accept → ForceFacts s
+pub force_facts : (s : Areas) → verdict (force_tests s) ≡ Ok tt → ForceFacts s
 unfolding force_tests
 force_facts s h = record { unstable = ltb-true _ _ (passed _ 0 h) }
 
@@ -29,7 +28,7 @@ pub record StoreFacts (s : Areas) (n p : ℕ) : Type 0 where
   pub page : p < n
   pub stable : get_or (last_naming s.log (received_count s)) p 0 ≤ stable_count s
 
-pub store_facts : (s : Areas) (n p : ℕ) → verdict (store_tests s n p) ≡ Accept → StoreFacts s n p
+pub store_facts : (s : Areas) (n p : ℕ) → verdict (store_tests s n p) ≡ Ok tt → StoreFacts s n p
 unfolding store_tests
 store_facts s n p h =
     record { page = ltb-true _ _ (passed _ 0 h); stable = leb-true _ _ (passed _ 1 h) }
@@ -44,7 +43,7 @@ pub record EmptyFacts (s : Areas) : Type 0 where
   pub all_stable : stable_count s ≡ received_count s
   pub all_stored : same s.copies 0 s.stored 0 (length s.stored) ≡ true
 
-pub empty_facts : (s : Areas) → verdict (empty_tests s) ≡ Accept → EmptyFacts s
+pub empty_facts : (s : Areas) → verdict (empty_tests s) ≡ Ok tt → EmptyFacts s
 unfolding empty_tests
 empty_facts s h =
     let b = and_split (eqb (at s.work active_at) 0 && eqb (stable_count s) (received_count s)) (same s.copies 0 s.stored 0 (length s.stored)) (passed _ 0 h) in

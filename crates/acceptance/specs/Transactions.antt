@@ -1,11 +1,10 @@
 -- Document 01, 'Calls': what an accepted begin, commit and abort know. n is the number of pages. Assumes nothing.
-use Rattle.std.specs.Prelude.{ℕ, ◌+◌, ◌<◌, ◌≤◌, ◌≡◌, true, false, not, List, length}
+use Rattle.std.specs.Prelude.{ℕ, ◌+◌, ◌<◌, ◌≤◌, ◌≡◌, true, false, not, List, length, Ok}
 use Rattle.std.proofs.Common.{ltb-true, leb-true}
 use Rattle.std.proofs.lemmas.Bool.{not-true}
 use Rattle.words.specs.Tests.{all_at, and_split}
 use Rattle.records.specs.Records.{txn_count}
 use Rattle.calls.specs.Room.{change_room}
-use Rattle.areas.specs.declared.Check.TheVariants.{Accept}
 use Rattle.areas.specs.Answers.{verdict, passed}
 use Rattle.areas.specs.Areas.{Areas, done, received_count}
 use Rattle.areas.specs.Layout.{unflushed_at, client_count}
@@ -22,7 +21,7 @@ pub record BeginFacts (s : Areas) (n t c : ℕ) : Type 0 where
   pub inactive : is_active s.work t ≡ false
   pub room : Room s n change_room
 
-pub begin_facts : (s : Areas) (n t c : ℕ) → verdict (begin_tests s n t c) ≡ Accept → BeginFacts s n t c
+pub begin_facts : (s : Areas) (n t c : ℕ) → verdict (begin_tests s n t c) ≡ Ok tt → BeginFacts s n t c
 unfolding begin_tests
 begin_facts s n t c h =
     let a = and_split (is_txn t) (is_client c) (passed _ 0 h) in
@@ -43,7 +42,7 @@ pub all_flushed_law : (w : List ℕ) (n t p : ℕ) → all_flushed w n t ≡ tru
 unfolding all_flushed
 all_flushed_law w n t p h l = not-true _ (all_at (λ q. not (has w (unflushed_at n q) t)) n p h l)
 
-pub commit_facts : (s : Areas) (n t : ℕ) → verdict (commit_tests s n t) ≡ Accept → CommitFacts s n t
+pub commit_facts : (s : Areas) (n t : ℕ) → verdict (commit_tests s n t) ≡ Ok tt → CommitFacts s n t
 unfolding commit_tests
 commit_facts s n t h =
     record { txn = ltb-true _ _ (passed _ 0 h); active = passed _ 1 h; flushed = λ p. all_flushed_law s.work n t p (passed _ 2 h); room = leb-true _ _ (passed _ 3 h) }
@@ -58,7 +57,7 @@ pub record AbortFacts (s : Areas) (n t : ℕ) : Type 0 where
   pub active : is_active s.work t ≡ true
   pub room : received_count s + (length (changes_of s n t) + 1) ≤ records s
 
-pub abort_facts : (s : Areas) (n t : ℕ) → verdict (abort_tests s n t) ≡ Accept → AbortFacts s n t
+pub abort_facts : (s : Areas) (n t : ℕ) → verdict (abort_tests s n t) ≡ Ok tt → AbortFacts s n t
 unfolding abort_tests
 abort_facts s n t h =
     record { txn = ltb-true _ _ (passed _ 0 h); active = passed _ 1 h; room = leb-true _ _ (passed _ 2 h) }

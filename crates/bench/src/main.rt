@@ -1,7 +1,7 @@
 // The bench program: a store of 4 pages and 64 log records in memory; lines in, answers out.
 #![tactic(auto)]
 
-ghost use Rattle.std.specs.Prelude.{◌+◌, ◌*◌, ◌<◌, ◌≤◌, ◌≡◌, length, IfSome};
+ghost use Rattle.std.specs.Prelude.{ℕ, ◌+◌, ◌≤◌, ◌≡◌, length, IfSome};
 ghost use Rattle.areas.specs.Areas.{areas};
 ghost use Rattle.bench_run.specs.Bench.{bench_store};
 ghost use Rattle.bench_serving.specs.Held.{state_of};
@@ -39,11 +39,12 @@ const OUT_ROOM: usize = bench_output::LINE_ROOM * CHUNK;
 // The chunks that are read at most, since a proved loop ends: their lines have numbers of 64 bits, and no run has as many.
 const TURNS: u64 = u64::MAX / (CHUNK as u64);
 
-// Where the program stands between two chunks: the place, the chunks that may still be read, and whether the input ended.
+// Where the program stands between two chunks: the place, whether another chunk is read, and whether the input ended.
+// Neither: reading or writing failed.
 #[derive(Clone, Copy)]
 struct Turn {
     place: Place,
-    turns: u64,
+    more: bool,
     ended: bool,
 }
 
@@ -80,20 +81,6 @@ fn put(streams: Streams, lines: &[u8]) -> bool
     written
 }
 
-// The turns that are left after one more: none at the end of the input, or where reading or writing failed.
-fn left(turns: u64, got: Option<usize>, written: bool) -> u64
-    requires { 0 < turns }
-    ensures { result < turns }
-{
-    if got.unwrap_or(0) == 0 {
-        return 0;
-    }
-    if !written {
-        return 0;
-    }
-    turns - 1
-}
-
 // Reads a chunk, serves its bytes, and writes their output lines with one write.
 fn take_chunk(
     streams: Streams,
@@ -103,12 +90,11 @@ fn take_chunk(
     log: &mut [u32],
     counts: &mut [u32],
     work: &mut [u32],
-    turn: Turn,
+    place: Place,
 ) -> Turn
-    requires { (0 < turn.turns) × Reached (state_of (areas stored.old copies.old received.old log.old counts.old work.old) turn.place) (chunk * turn.turns + 1) }
-    ensures { (result.turns < turn.turns) × Reached (state_of (areas stored.new copies.new received.new log.new counts.new work.new) result.place) (chunk * result.turns + 1) }
+    requires { Reached (state_of (areas stored.old copies.old received.old log.old counts.old work.old) place) (chunk + 1) }
+    ensures { (n : ℕ) → Reached (state_of (areas stored.old copies.old received.old log.old counts.old work.old) place) (chunk + n) → Reached (state_of (areas stored.new copies.new received.new log.new counts.new work.new) result.place) n }
 {
-    let place = turn.place;
     let mut buf = [0u8; CHUNK];
     let got = read_chunk(streams, &mut buf);
     let n = got.unwrap_or(0);
@@ -126,10 +112,9 @@ fn take_chunk(
     );
     let used = at.used;
     let written = put(streams, &out[..used]);
-    let turns = left(turn.turns, got, written);
     Turn {
         place: at,
-        turns,
+        more: n > 0 && written,
         ended: got == Some(0),
     }
 }
@@ -150,11 +135,16 @@ fn take_input(
     let place = bench_serving::start();
     let mut turn = Turn {
         place,
-        turns: TURNS,
+        more: true,
         ended: false,
     };
-    while turn.turns > 0 {
-        turn = take_chunk(streams, stored, copies, received, log, counts, work, turn);
+    for _ in 0..TURNS {
+        turn = take_chunk(
+            streams, stored, copies, received, log, counts, work, turn.place,
+        );
+        if !turn.more {
+            break;
+        }
     }
     turn
 }
@@ -211,7 +201,8 @@ fn main(rt: HostRuntime) {
     let mut log = [0u32; LOG_AREA];
     let mut counts = [0u32; COUNTS];
     let mut work = [0u32; WORK_AREA];
-    formatting::format(
+    // Not refused: the areas have the lengths that it asks for.
+    let _ = formatting::format(
         &mut stored,
         &mut copies,
         &mut received,

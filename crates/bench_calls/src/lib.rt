@@ -39,6 +39,6 @@ pub fn serve(
         Command::Stability(c) => stability_call(stored, copies, received, log, counts, work, c),
         Command::Collection(c) => pass_call(stored, copies, received, log, counts, work, c),
         Command::Reopening(c) => reopening_call(stored, copies, received, log, counts, work, c),
-        Command::NoCall => Answer::Refused(Refusal::Malformed),
+        Command::NoCall => Err(Refusal::Malformed),
     }
 }

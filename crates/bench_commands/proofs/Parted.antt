@@ -5,6 +5,7 @@ use mathlib.Core.List.{List, [], ◌∷◌}
 use native.Mathlib.Omega.{arith}
 use lib.ListN.{length, take, drop}
 use lib.Seq.{drop-drop}
+use Rattle.std.specs.Prelude.{Option, Some, None}
 use Rattle.texts.specs.Fields.{fields_of}
 use Rattle.texts.specs.Parts.{field_length, following}
 use Rattle.texts.specs.Walk.{at_byte}
@@ -14,17 +15,27 @@ use Rattle.bench_commands.specs.Commands.{and_number, numbers_from, call_of, cal
 use Rattle.bench_commands.specs.declared.Numbers.{Numbers}
 use Rattle.bench_commands.specs.declared.Numbers.TheVariants.{Zero}
 
-numbers_field : (ns : Numbers) (f : List ℕ) (fs : List (List ℕ)) → numbers_from ns (f ∷ fs) ≡ numbers_from (and_number ns (number_in f)) fs
+numbers_field : (ns : Option Numbers) (f : List ℕ) (fs : List (List ℕ)) → numbers_from ns (f ∷ fs) ≡ numbers_from (and_number ns (number_in f)) fs
 unfolding numbers_from
 numbers_field ns f fs = refl
 
-pub numbers_none : (ns : Numbers) → numbers_from ns [] ≡ ns
+pub numbers_none : (ns : Option Numbers) → numbers_from ns [] ≡ ns
 unfolding numbers_from
 numbers_none ns = refl
 
+none_on : (x : Option ℕ) → and_number None x ≡ None
+none_on None = refl
+none_on (Some a) = refl
+
+-- past a field that is no number, or a fifth number, there are none
+pub numbers_over : (fs : List (List ℕ)) → numbers_from None fs ≡ None
+unfolding numbers_from
+numbers_over [] = refl
+numbers_over (f ∷ fs) = ap (λ (m : Option Numbers). numbers_from m fs) (none_on (number_in f)) ∙ numbers_over fs
+
 -- past a comma before a: the field of k bytes from there is read, and those that follow are left
-module _ (s : List ℕ) (ns : Numbers) (a k : ℕ) where
-  abbrev after_field : ℕ → List ℕ → Numbers
+module _ (s : List ℕ) (ns : Option Numbers) (a k : ℕ) where
+  abbrev after_field : ℕ → List ℕ → Option Numbers
   after_field n l = numbers_from (and_number ns (number_in (take n (drop a s)))) (following l)
 
   fields_more : k ≡ field_length (take (length s - a) (drop a s)) → numbers_from ns (fields_of (drop a s)) ≡ after_field (a + k - a) (drop (a + k) s)
@@ -38,15 +49,15 @@ module _ (s : List ℕ) (ns : Numbers) (a k : ℕ) where
       ∙ ap (after_field k) (drop-drop k a s)
       ∙ ap (λ (j : ℕ). after_field j (drop (a + k) s)) m
 
-pub numbers_more : (s : List ℕ) (ns : Numbers) (e k : ℕ) → e < length s → k ≡ field_length (take (length s - (e + 1)) (drop (e + 1) s))
+pub numbers_more : (s : List ℕ) (ns : Option Numbers) (e k : ℕ) → e < length s → k ≡ field_length (take (length s - (e + 1)) (drop (e + 1) s))
     → numbers_from ns (following (drop e s)) ≡ after_field s ns (e + 1) k (e + 1 + k - (e + 1)) (drop (e + 1 + k) s)
 numbers_more s ns e k h q = at_byte (λ (l : List ℕ). numbers_from ns (following l)) s e h ∙ fields_more s ns (e + 1) k q
 
 -- a line's command, from its first field and the numbers of the rest
-pub command_parts : (s : List ℕ) (e : ℕ) (ns : Numbers) → e ≡ field_length s → ns ≡ numbers_from Zero (following (take (length s - e) (drop e s)))
+pub command_parts : (s : List ℕ) (e : ℕ) (ns : Option Numbers) → e ≡ field_length s → ns ≡ numbers_from (Some Zero) (following (take (length s - e) (drop e s)))
     → call_of (take e s) ns ≡ command_of s
 unfolding command_of
 command_parts s e ns p q =
-    ap (call_of (take e s)) (q ∙ ap (λ (l : List ℕ). numbers_from Zero (following l)) (part_rest s e))
-    ∙ ap (λ (n : ℕ). call_of (take n s) (numbers_from Zero (following (drop n s)))) p
+    ap (call_of (take e s)) (q ∙ ap (λ (l : List ℕ). numbers_from (Some Zero) (following l)) (part_rest s e))
+    ∙ ap (λ (n : ℕ). call_of (take n s) (numbers_from (Some Zero) (following (drop n s)))) p
     ∙ ap call_of_fields (sym (fields_part s))

@@ -1,13 +1,11 @@
 -- The input read byte by byte: the line so far, and what each byte makes of it.
 -- What this comes to is a law of crate feeding_laws: the commands of the input's lines.
-use Rattle.std.specs.Prelude.{ℕ, ◌+◌, true, false, ◌&&◌, cond as if, ltb, eqb, take, set, replicate}
+use Rattle.std.specs.Prelude.{ℕ, ◌+◌, true, false, ◌&&◌, cond as if, Option, Some, None, ltb, eqb, take, set, replicate}
 use Rattle.texts.specs.Text.{cr, lf}
 use Rattle.bench_commands.specs.Commands.{command_of}
 use Rattle.bench_names.specs.declared.Command.{Command}
 use Rattle.bench_names.specs.declared.Command.TheVariants.{NoCall}
 use Rattle.bench_feeding.specs.declared.Line.{Line}
-use Rattle.bench_feeding.specs.declared.Ended.{Ended}
-use Rattle.bench_feeding.specs.declared.Ended.TheVariants.{No, Yes}
 use Rattle.bench_feeding.specs.declared.Fed.{Fed}
 
 -- the bytes of a line that are kept: no call has as many
@@ -41,11 +39,11 @@ held_command l = if (ltb line_bytes l.count) NoCall (command_of (take l.count l.
 unfoldable pub fed : Line → ℕ → Fed
 fed l b =
     if (l.cr && eqb b lf)
-    (record { line = no_line; ended = Yes (held_command l) })
+    (record { line = no_line; ended = Some (held_command l) })
     (if (eqb b cr)
-    (record { line = record { bytes = (settled l).bytes; count = (settled l).count; cr = true }; ended = No })
-    (record { line = pushed (settled l) b; ended = No }))
+    (record { line = record { bytes = (settled l).bytes; count = (settled l).count; cr = true }; ended = None })
+    (record { line = pushed (settled l) b; ended = None }))
 
 -- "which the last input line may lack": the input ends; what is left, if anything, is the last line
-unfoldable pub finished : Line → Ended
-finished l = if (eqb (settled l).count 0) No (Yes (held_command (settled l)))
+unfoldable pub finished : Line → Option Command
+finished l = if (eqb (settled l).count 0) None (Some (held_command (settled l)))

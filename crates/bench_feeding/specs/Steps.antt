@@ -1,10 +1,9 @@
 -- What a byte makes of the line, case by case.
-use Rattle.std.specs.Prelude.{ℕ, ◌≡◌, Bool, true, false, ◌&&◌, cond as if, eqb}
+use Rattle.std.specs.Prelude.{ℕ, ◌≡◌, Bool, true, false, ◌&&◌, cond as if, Some, None, eqb}
 use Rattle.std.proofs.Common.{ap, ◌∙◌, eq-eqb, ne_eqb}
 use Rattle.texts.specs.Text.{cr, lf}
 use Rattle.bench_feeding.specs.Reading.{no_line, pushed, settled, held_command, fed, finished}
 use Rattle.bench_feeding.specs.declared.Line.{Line}
-use Rattle.bench_feeding.specs.declared.Ended.TheVariants.{No, Yes}
 use Rattle.bench_feeding.specs.declared.Fed.{Fed}
 
 -- a choice whose test is known
@@ -21,7 +20,7 @@ with_cr l = record { bytes = l.bytes; count = l.count; cr = true }
 
 -- no line ended
 abbrev pub going : Line → Fed
-going l = record { line = l; ended = No }
+going l = record { line = l; ended = None }
 
 module _ (l : Line) where
   pub settled_cr : l.cr ≡ true → settled l ≡ pushed l cr
@@ -32,7 +31,7 @@ module _ (l : Line) where
   unfolding settled
   settled_not e = if_f _ _ _ e
 
-  pub fed_end : (b : ℕ) → l.cr && eqb b lf ≡ true → fed l b ≡ record { line = no_line; ended = Yes (held_command l) }
+  pub fed_end : (b : ℕ) → l.cr && eqb b lf ≡ true → fed l b ≡ record { line = no_line; ended = Some (held_command l) }
   unfolding fed
   fed_end b e = if_t _ _ _ e
 
@@ -44,10 +43,10 @@ module _ (l : Line) where
   unfolding fed
   fed_byte b e h = if_f _ _ _ e ∙ if_f _ _ _ (ne_eqb b cr h)
 
-  pub finished_none : (settled l).count ≡ 0 → finished l ≡ No
+  pub finished_none : (settled l).count ≡ 0 → finished l ≡ None
   unfolding finished
   finished_none e = if_t _ _ _ (eq-eqb (settled l).count 0 e)
 
-  pub finished_some : ((settled l).count ≡ 0 → ⊥) → finished l ≡ Yes (held_command (settled l))
+  pub finished_some : ((settled l).count ≡ 0 → ⊥) → finished l ≡ Some (held_command (settled l))
   unfolding finished
   finished_some n = if_f _ _ _ (ne_eqb (settled l).count 0 n)

@@ -11,10 +11,10 @@ use texts::{CR, LF};
 pub const LINE_BYTES: usize = 64;
 
 // The count of a line with more bytes than are kept.
-const MORE: usize = 65;
+const MORE: usize = LINE_BYTES + 1;
 
 // The line that is being read: its first bytes, how many it has (MORE: more than are kept),
-// and whether a CR came last, which is no byte of the line if an LF follows.
+// and whether a CR came last, which is no byte of the line if an LF follows. Fixed memory: an array, with the count beside it.
 #[derive(Clone, Copy)]
 pub struct Line {
     pub bytes: [u8; LINE_BYTES],
@@ -22,18 +22,11 @@ pub struct Line {
     pub cr: bool,
 }
 
-// Whether a line ended, and its command.
-#[derive(Clone, Copy)]
-pub enum Ended {
-    No,
-    Yes(Command),
-}
-
-// The line after a byte, and what the byte ended.
+// The line after a byte, and the command of the line that the byte ended, if it ended one.
 #[derive(Clone, Copy)]
 pub struct Fed {
     pub line: Line,
-    pub ended: Ended,
+    pub ended: Option<Command>,
 }
 
 // A line of which nothing is read.
@@ -100,38 +93,32 @@ pub fn feed(line: Line, b: u8) -> Fed
         let next = no_line();
         return Fed {
             line: next,
-            ended: Ended::Yes(c),
+            ended: Some(c),
         };
     }
     let l = settle(line);
     if b == CR {
-        let w = l.bytes;
-        let n = l.count;
-        let next = Line {
-            bytes: w,
-            count: n,
-            cr: true,
-        };
+        let next = Line { cr: true, ..l };
         return Fed {
             line: next,
-            ended: Ended::No,
+            ended: None,
         };
     }
     let next = push(l, b);
     Fed {
         line: next,
-        ended: Ended::No,
+        ended: None,
     }
 }
 
-// The command of the last line, where the input ends without CRLF.
-pub fn finish(line: Line) -> Ended
+// The command of the last line, where the input ends without CRLF; None: no line is left.
+pub fn finish(line: Line) -> Option<Command>
     ensures { result ≡ finished line }
 {
     let last = settle(line);
     if last.count == 0 {
-        return Ended::No;
+        return None;
     }
     let c = held(last);
-    Ended::Yes(c)
+    Some(c)
 }

@@ -1,9 +1,10 @@
 // The calls of the bench program by their names.
 #![tactic(auto)]
 
-ghost use Rattle.std.specs.Prelude.{◌≡◌, cond};
-ghost use Rattle.texts.specs.Same.{same};
+ghost use Rattle.std.specs.Prelude.{◌≡◌};
 ghost use Rattle.bench_names.specs.Names.{call_alone, call_one, call_two, call_four};
+
+use texts::same;
 
 // The calls of transactions, with their numbers.
 #[derive(Clone, Copy)]
@@ -52,6 +53,7 @@ pub enum ReopeningCall {
 }
 
 // One line of the bench program's input: a call with its numbers, or no call.
+// NoCall is no `None`: bench_feeding's `Option<Command>` says whether a line ended, and two of them nested are no plainer.
 #[derive(Clone, Copy)]
 pub enum Command {
     Transaction(TransactionCall),
@@ -63,119 +65,74 @@ pub enum Command {
     NoCall,
 }
 
-// The call where the name is this one, otherwise the other command.
-fn either(name: &[u8], this: &[u8], call: Command, other: Command) -> Command
-    ensures { result ≡ cond (same name.now this.now) call other }
-{
-    if texts::same(name, this) { call } else { other }
-}
-
 // The call of a name with no numbers.
+#[tactic(auto, unfolding(crate::specs::Names::call_alone))]
 pub fn call_alone(name: &[u8]) -> Command
     ensures { result ≡ call_alone name.now }
 {
-    let restep = either(
-        name,
-        b"restep",
-        Command::Reopening(ReopeningCall::Restep),
-        Command::NoCall,
-    );
-    let reopen = either(
-        name,
-        b"reopen",
-        Command::Reopening(ReopeningCall::Reopen),
-        restep,
-    );
-    let step = either(name, b"step", Command::Collection(PassCall::Step), reopen);
-    let pass = either(name, b"pass", Command::Collection(PassCall::Pass), step);
-    let empty = either(
-        name,
-        b"empty",
-        Command::Stability(StabilityCall::Empty),
-        pass,
-    );
-    either(
-        name,
-        b"force",
-        Command::Stability(StabilityCall::Force),
-        empty,
-    )
+    if same(name, b"force") {
+        Command::Stability(StabilityCall::Force)
+    } else if same(name, b"empty") {
+        Command::Stability(StabilityCall::Empty)
+    } else if same(name, b"pass") {
+        Command::Collection(PassCall::Pass)
+    } else if same(name, b"step") {
+        Command::Collection(PassCall::Step)
+    } else if same(name, b"reopen") {
+        Command::Reopening(ReopeningCall::Reopen)
+    } else if same(name, b"restep") {
+        Command::Reopening(ReopeningCall::Restep)
+    } else {
+        Command::NoCall
+    }
 }
 
 // The call of a name with one number.
+#[tactic(auto, unfolding(crate::specs::Names::call_one))]
 pub fn call_one(name: &[u8], a: u32) -> Command
     ensures { result ≡ call_one name.now a }
 {
-    let store = either(
-        name,
-        b"store",
-        Command::Stability(StabilityCall::Store(a)),
-        Command::NoCall,
-    );
-    let abort = either(
-        name,
-        b"abort",
-        Command::Transaction(TransactionCall::Abort(a)),
-        store,
-    );
-    let commit = either(
-        name,
-        b"commit",
-        Command::Transaction(TransactionCall::Commit(a)),
-        abort,
-    );
-    either(
-        name,
-        b"begin",
-        Command::Transaction(TransactionCall::Begin(a)),
-        commit,
-    )
+    if same(name, b"begin") {
+        Command::Transaction(TransactionCall::Begin(a))
+    } else if same(name, b"commit") {
+        Command::Transaction(TransactionCall::Commit(a))
+    } else if same(name, b"abort") {
+        Command::Transaction(TransactionCall::Abort(a))
+    } else if same(name, b"store") {
+        Command::Stability(StabilityCall::Store(a))
+    } else {
+        Command::NoCall
+    }
 }
 
 // The call of a name with two numbers.
+#[tactic(auto, unfolding(crate::specs::Names::call_two))]
 pub fn call_two(name: &[u8], a: u32, b: u32) -> Command
     ensures { result ≡ call_two name.now a b }
 {
-    let create = either(
-        name,
-        b"create",
-        Command::Object(ObjectCall::Create(a, b)),
-        Command::NoCall,
-    );
-    let read = either(
-        name,
-        b"read",
-        Command::Object(ObjectCall::Read(a, b)),
-        create,
-    );
-    let flush = either(
-        name,
-        b"flush",
-        Command::Object(ObjectCall::Flush(a, b)),
-        read,
-    );
-    let lockw = either(
-        name,
-        b"lockw",
-        Command::Lock(LockCall::LockWrite(a, b)),
-        flush,
-    );
-    either(
-        name,
-        b"lockr",
-        Command::Lock(LockCall::LockRead(a, b)),
-        lockw,
-    )
+    if same(name, b"lockr") {
+        Command::Lock(LockCall::LockRead(a, b))
+    } else if same(name, b"lockw") {
+        Command::Lock(LockCall::LockWrite(a, b))
+    } else if same(name, b"flush") {
+        Command::Object(ObjectCall::Flush(a, b))
+    } else if same(name, b"read") {
+        Command::Object(ObjectCall::Read(a, b))
+    } else if same(name, b"create") {
+        Command::Object(ObjectCall::Create(a, b))
+    } else {
+        Command::NoCall
+    }
 }
 
 // The call of a name with four numbers.
+#[tactic(auto, unfolding(crate::specs::Names::call_four))]
 pub fn call_four(name: &[u8], a: u32, b: u32, c: u32, d: u32) -> Command
     ensures { result ≡ call_four name.now a b c d }
 {
-    either(
-        name,
-        b"set",
-        Command::Object(ObjectCall::Set(a, b, c, d)),
-        Command::NoCall,
-    )
+    if same(name, b"set") {
+        Command::Object(ObjectCall::Set(a, b, c, d))
+    } else {
+        Command::NoCall
+    }
 }

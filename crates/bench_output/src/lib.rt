@@ -9,6 +9,8 @@ ghost use Rattle.bench_output.specs.Output.{line_room, field_text, output_line};
 use decimals::put_number;
 use texts::{COMMA, CR, LF};
 
+// The program takes no memory while it runs: a line is put into a buffer that is lent, from a place on, and answers where it ends.
+
 // The bytes of a buffer for one line: three numbers of at most 20 digits, two commas, CR and LF.
 pub const LINE_ROOM: usize = 64;
 

@@ -1,15 +1,14 @@
 -- The bench program's rights, page by page. Assumes nothing.
-use Rattle.std.specs.Prelude.{ℕ, ◌+◌, ◌≤◌, ◌≡◌, refl, true, false, eqb}
+use Rattle.std.specs.Prelude.{ℕ, ◌+◌, ◌≤◌, ◌≡◌, refl, true, false, eqb, Ok, Err}
 use Rattle.std.proofs.Common.{add-one, arith, sym, ap, ◌∙◌}
 use Rattle.words.specs.Tests.{if_t, if_f}
-use Rattle.areas.specs.declared.Answer.{Answer}
-use Rattle.areas.specs.declared.Answer.TheVariants.{Done, Refused}
 use Rattle.areas.specs.declared.Refusal.{Refusal}
 use Rattle.areas.specs.Areas.{Areas, Out}
 use Rattle.areas.specs.Layout.{writing}
 use Rattle.calls.specs.Rights.{call_grant}
 use Rattle.calls.specs.Calls.{perform}
 use Rattle.bench_run.specs.Bench.{bench_pages, bench_client, all_given, rights_again}
+use Rattle.areas.specs.Answers.{Answer}
 
 pub given_none : (s : Areas) → s ≡ all_given s 0
 unfolding all_given
@@ -27,14 +26,14 @@ given_end s x p a b e = e ∙ ap (all_given s) (omega arith)
 again : (s : Areas) (a d : Answer) → a ≡ d → rights_again (record { answer = d; after = s }) ≡ rights_again (record { answer = a; after = s })
 again s a d e = ap (λ (r : Answer). rights_again (record { answer = r; after = s })) (sym e)
 
-pub again_given : (s t : Areas) (v : ℕ) (a : Answer) → a ≡ Done v → eqb v bench_pages ≡ true → t ≡ all_given s bench_pages → record { answer = Done v; after = t } ≡ rights_again (record { answer = a; after = s })
+pub again_given : (s t : Areas) (v : ℕ) (a : Answer) → a ≡ Ok v → eqb v bench_pages ≡ true → t ≡ all_given s bench_pages → record { answer = Ok v; after = t } ≡ rights_again (record { answer = a; after = s })
 unfolding rights_again
-again_given s t v a o e d = ap (λ (x : Areas). record { answer = Done v; after = x }) d ∙ sym (if_t _ _ _ e) ∙ again s a (Done v) o
+again_given s t v a o e d = ap (λ (x : Areas). record { answer = Ok v; after = x }) d ∙ sym (if_t _ _ _ e) ∙ again s a (Ok v) o
 
-pub again_not : (s : Areas) (v : ℕ) (a : Answer) → a ≡ Done v → eqb v bench_pages ≡ false → record { answer = Done v; after = s } ≡ rights_again (record { answer = a; after = s })
+pub again_not : (s : Areas) (v : ℕ) (a : Answer) → a ≡ Ok v → eqb v bench_pages ≡ false → record { answer = Ok v; after = s } ≡ rights_again (record { answer = a; after = s })
 unfolding rights_again
-again_not s v a o e = sym (if_f _ _ _ e) ∙ again s a (Done v) o
+again_not s v a o e = sym (if_f _ _ _ e) ∙ again s a (Ok v) o
 
-pub again_refused : (s : Areas) (x : Refusal) (a : Answer) → a ≡ Refused x → record { answer = Refused x; after = s } ≡ rights_again (record { answer = a; after = s })
+pub again_refused : (s : Areas) (x : Refusal) (a : Answer) → a ≡ Err x → record { answer = Err x; after = s } ≡ rights_again (record { answer = a; after = s })
 unfolding rights_again
-again_refused s x a o = again s a (Refused x) o
+again_refused s x a o = again s a (Err x) o

@@ -24,7 +24,8 @@ pub fn give_all(
     ensures { areas stored.now copies.now received.now log.now counts.now work.new ≡ all_given (areas stored.now copies.now received.now log.now counts.now work.old) bench_pages }
 {
     for p in 0..PAGES {
-        right_calls::grant(
+        // What it leaves is all that counts, as in `all_given`.
+        let _ = right_calls::grant(
             stored,
             copies,
             received,
@@ -50,13 +51,9 @@ pub fn give_again(
 ) -> Answer
     ensures { out result stored.now copies.now received.now log.now counts.now work.new ≡ rights_again (record { answer = a; after = areas stored.now copies.now received.now log.now counts.now work.old }) }
 {
-    match a {
-        Answer::Refused(x) => Answer::Refused(x),
-        Answer::Done(v) => {
-            if v == PAGES {
-                give_all(stored, copies, received, log, counts, work);
-            }
-            Answer::Done(v)
-        }
+    let v = a?;
+    if v == PAGES {
+        give_all(stored, copies, received, log, counts, work);
     }
+    Ok(v)
 }

@@ -1,11 +1,9 @@
 -- Document 01, 'The bench program': what each line does to the store, and what is written. Assumes nothing.
-use Rattle.std.specs.Prelude.{ℕ, zero, suc, ◌+◌, Bool, false, List, [], ◌∷◌, ◌++◌, take, drop, replicate, eqb}
+use Rattle.std.specs.Prelude.{ℕ, zero, suc, ◌+◌, Bool, false, List, [], ◌∷◌, ◌++◌, take, drop, replicate, eqb, Ok, Err}
 use Rattle.words.specs.Tests.{if}
 use Rattle.pages.specs.Geometry.{page_at, page_words}
 use Rattle.areas.specs.declared.Refusal.TheVariants.{Malformed}
-use Rattle.areas.specs.declared.Answer.{Answer}
-use Rattle.areas.specs.declared.Answer.TheVariants.{Done, Refused}
-use Rattle.areas.specs.Answers.{answer_of, value_of}
+use Rattle.areas.specs.Answers.{answer_of, value_of, Answer}
 use Rattle.areas.specs.Areas.{Areas, Out, refused}
 use Rattle.areas.specs.Layout.{writing}
 use Rattle.calls.specs.Formatting.{formatted}
@@ -53,8 +51,8 @@ bench_store = all_given (formatted bench_pages bench_records) bench_pages
 
 -- L9: 'a finished reopening': the step whose value is P ('the page stored, lastly P, for a reopening step')
 abbrev pub finishes : Answer → Bool
-finishes (Done v) = eqb v bench_pages
-finishes (Refused x) = false
+finishes (Ok v) = eqb v bench_pages
+finishes (Err x) = false
 
 -- L9: all rights 'again after each finished reopening'
 unfoldable pub rights_again : Out → Out

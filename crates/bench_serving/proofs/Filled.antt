@@ -6,18 +6,16 @@ use native.Mathlib.Nat.{add-zero}
 use native.Mathlib.Omega.{arith}
 use lib.ListN.{length, get_or, drop, length-append}
 use lib.Seq.{sets, length-sets}
+use Rattle.std.specs.Prelude.{Option, Some, None}
 use Rattle.texts.specs.Walk.{at_byte, at_end}
 use Rattle.decimals.specs.DecimalLaws.{sets_append}
 use Rattle.areas.specs.Areas.{Areas, Out}
-use Rattle.areas.specs.Answers.{answer_of, value_of}
-use Rattle.areas.specs.declared.Answer.{Answer}
+use Rattle.areas.specs.Answers.{answer_of, value_of, Answer}
 use Rattle.bench_names.specs.declared.Command.{Command}
 use Rattle.bench_output.specs.Output.{output_line}
 use Rattle.bench_run.specs.Bench.{bench_call}
 use Rattle.bench_feeding.specs.Reading.{no_line, fed, finished}
 use Rattle.bench_feeding.specs.declared.Line.{Line}
-use Rattle.bench_feeding.specs.declared.Ended.{Ended}
-use Rattle.bench_feeding.specs.declared.Ended.TheVariants.{No, Yes}
 use Rattle.bench_feeding.specs.declared.Fed.{Fed}
 use Rattle.bench_serving.specs.Serving.{with_line, answer_text, served_end, served_byte, served, served_last}
 use Rattle.bench_serving.specs.Held.{Held, held, state_of, filled, told, Fits}
@@ -43,31 +41,31 @@ module _ (s : Areas) (p : Place) (o : List ℕ) where
   abbrev with_used : ℕ → Place
   with_used u = record { line = p.line; number = p.number; used = u }
 
-  pub none_held : (e : Ended) → e ≡ No → held s p o ≡ filled (served_end (state_of s p) e) p.used o
+  pub none_held : (e : Option Command) → e ≡ None → held s p o ≡ filled (served_end (state_of s p) e) p.used o
   unfolding served_end
-  none_held e q = ap (λ (u : ℕ). held s (with_used u) o) (sym (add-zero p.used)) ∙ ap (λ (x : Ended). filled (served_end (state_of s p) x) p.used o) (sym q)
+  none_held e q = ap (λ (u : ℕ). held s (with_used u) o) (sym (add-zero p.used)) ∙ ap (λ (x : Option Command). filled (served_end (state_of s p) x) p.used o) (sym q)
 
-  pub line_held : (t : Areas) (p' : Place) (o' : List ℕ) (e : Ended) (c : Command) (a : Answer) → e ≡ Yes c → record { answer = a; after = t } ≡ bench_call s c
+  pub line_held : (t : Areas) (p' : Place) (o' : List ℕ) (e : Option Command) (c : Command) (a : Answer) → e ≡ Some c → record { answer = a; after = t } ≡ bench_call s c
       → (p' ≡ told p a) × (o' ≡ sets o p.used (answer_text p.number a)) → held t p' o' ≡ filled (served_end (state_of s p) e) p.used o
   unfolding served_end
   line_held t p' o' e c a q call tell =
       ap (λ (r : Place). held t r o') tell.0
       ∙ ap (held t (told p a)) tell.1
       ∙ ap (λ (u : Out). held u.after (told p u.answer) (sets o p.used (answer_text p.number u.answer))) call
-      ∙ ap (λ (x : Ended). filled (served_end (state_of s p) x) p.used o) (sym q)
+      ∙ ap (λ (x : Option Command). filled (served_end (state_of s p) x) p.used o) (sym q)
 
   pub byte_held : (b : ℕ) (f : Fed) (h : Held) → f ≡ fed p.line b
       → h ≡ filled (served_end (with_line (state_of s p) f.line) f.ended) p.used o → h ≡ filled (served_byte (state_of s p) b) p.used o
   unfolding served_byte
   byte_held b f h q e = e ∙ ap (λ (g : Fed). filled (served_end (with_line (state_of s p) g.line) g.ended) p.used o) q
 
-  pub last_held : (l : Line) (x : Ended) (h : Held) → l ≡ no_line → x ≡ finished p.line
+  pub last_held : (l : Line) (x : Option Command) (h : Held) → l ≡ no_line → x ≡ finished p.line
       → h ≡ filled (served_end (with_line (state_of s p) l) x) p.used o → h ≡ filled (served_last (state_of s p)) p.used o
   unfolding served_last
   last_held l x h q r e =
       e
       ∙ ap (λ (m : Line). filled (served_end (with_line (state_of s p) m) x) p.used o) q
-      ∙ ap (λ (y : Ended). filled (served_end (with_line (state_of s p) no_line) y) p.used o) r
+      ∙ ap (λ (y : Option Command). filled (served_end (with_line (state_of s p) no_line) y) p.used o) r
 
   -- of the bytes from i on, g is what they all give: at the end, and past a byte
   module _ (bytes : List ℕ) (i : ℕ) (g : Held) (all : onward (held s p o) (drop i bytes) ≡ g) where

@@ -4,11 +4,11 @@ use Rattle.std.proofs.Common.{ap, ◌∙◌, arith, take_at}
 use Rattle.std.proofs.lemmas.List.Edits.{sets, sets-eq}
 use Rattle.std.proofs.Math.Seq.{length-sets}
 use Rattle.areas.specs.Areas.{Areas}
-use Rattle.areas.specs.declared.Answer.{Answer}
 use Rattle.bench_output.specs.Output.{line_room}
 use Rattle.bench_serving.specs.declared.Place.{Place}
 use Rattle.bench_serving.specs.Serving.{State, Served, opened, answer_text}
 use Rattle.bench_serving.specs.Laws.{Within}
+use Rattle.areas.specs.Answers.{Answer}
 
 -- the areas, the place, and the output buffer
 pub record Held : Type 0 where

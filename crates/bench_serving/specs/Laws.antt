@@ -1,5 +1,5 @@
 -- Laws of `served`: how many numbers and bytes of output it takes; chunks; the whole input.
-use Rattle.std.specs.Prelude.{ℕ, ◌+◌, ◌*◌, ◌≤◌, ◌≡◌, refl, List, [], ◌∷◌, ◌++◌, map, length}
+use Rattle.std.specs.Prelude.{ℕ, ◌+◌, ◌*◌, ◌≤◌, ◌≡◌, refl, List, [], ◌∷◌, ◌++◌, map, length, Option, Some, None}
 use Rattle.std.proofs.Common.{sym, ap, ◌∙◌, append-nil, append_assoc, arith, length-append}
 use Rattle.texts.specs.Lines.{lines_of}
 use Rattle.areas.specs.Areas.{Areas}
@@ -10,8 +10,6 @@ use Rattle.bench_output.specs.Output.{line_room, line_fits}
 use Rattle.bench_run.specs.Bench.{bench_call, bench_store, output_from, bench_output}
 use Rattle.bench_feeding.specs.Reading.{no_line, fed, finished}
 use Rattle.bench_feeding.specs.declared.Line.{Line}
-use Rattle.bench_feeding.specs.declared.Ended.{Ended}
-use Rattle.bench_feeding.specs.declared.Ended.TheVariants.{No, Yes}
 use Rattle.feeding_laws.specs.Fed.{and_then, commands_from}
 use Rattle.feeding_laws.specs.Stream.{commands_of_lines}
 use Rattle.bench_serving.specs.Serving.{State, Served, with_line, opened, answer_text, served_end, served_byte, joined, served, served_last, served_all}
@@ -21,10 +19,10 @@ pub record Within (s : State) (w : Served) (lines : ℕ) : Type 0 where
   pub numbers : w.after.number ≤ s.number + lines
   pub bytes : length w.output ≤ line_room * lines
 
-end_within : (s : State) (e : Ended) → Within s (served_end s e) 1
+end_within : (s : State) (e : Option Command) → Within s (served_end s e) 1
 unfolding served_end
-end_within s No = record { numbers = omega arith; bytes = omega arith }
-end_within s (Yes c) =
+end_within s None = record { numbers = omega arith; bytes = omega arith }
+end_within s (Some c) =
     let a = (bench_call s.store c).answer in
     record { numbers = omega arith; bytes = omega (arith, line_fits s.number (answer_of a) (value_of a)) }
 
@@ -69,16 +67,16 @@ output_lines s i [] = refl
 output_lines s i (l ∷ ls) = let o = bench_call s (command_of l) in ap (λ (x : List ℕ). answer_text i o.answer ++ x) (output_lines o.after (i + 1) ls)
 
 -- a line that ended, or none, and the commands that follow
-end_output : (s : State) (e : Ended) (cs : List Command)
+end_output : (s : State) (e : Option Command) (cs : List Command)
     → (served_end s e).output ++ output_of (served_end s e).after.store (served_end s e).after.number cs ≡ output_of s.store s.number (and_then e cs)
 unfolding output_of served_end
-end_output s No cs = refl
-end_output s (Yes c) cs = refl
+end_output s None cs = refl
+end_output s (Some c) cs = refl
 
-end_line : (s : State) (e : Ended) → (served_end s e).after.line ≡ s.line
+end_line : (s : State) (e : Option Command) → (served_end s e).after.line ≡ s.line
 unfolding served_end
-end_line s No = refl
-end_line s (Yes c) = refl
+end_line s None = refl
+end_line s (Some c) = refl
 
 last_output : (s : State) → (served_last s).output ≡ output_of s.store s.number (commands_from s.line [])
 unfolding output_of served_last commands_from

@@ -1,15 +1,13 @@
 -- Document 01, 'The bench program': the input served byte by byte.
--- What this comes to is a law, `served-input`: a whole input gives the output that crate bench_run says.
-use Rattle.std.specs.Prelude.{ℕ, ◌+◌, List, [], ◌∷◌, ◌++◌}
-use Rattle.areas.specs.declared.Answer.{Answer}
-use Rattle.areas.specs.Answers.{answer_of, value_of}
+-- What this comes to is a law, `served_input`: a whole input gives the output that crate bench_run says.
+use Rattle.std.specs.Prelude.{ℕ, ◌+◌, List, [], ◌∷◌, ◌++◌, Option, Some, None}
+use Rattle.areas.specs.Answers.{answer_of, value_of, Answer}
 use Rattle.areas.specs.Areas.{Areas}
 use Rattle.bench_run.specs.Bench.{bench_store, bench_call}
+use Rattle.bench_names.specs.declared.Command.{Command}
 use Rattle.bench_output.specs.Output.{output_line}
 use Rattle.bench_feeding.specs.Reading.{no_line, fed, finished}
 use Rattle.bench_feeding.specs.declared.Line.{Line}
-use Rattle.bench_feeding.specs.declared.Ended.{Ended}
-use Rattle.bench_feeding.specs.declared.Ended.TheVariants.{No, Yes}
 
 -- where the serving stands: the store, the line so far, and the number of the next line
 pub record State : Type 0 where
@@ -35,9 +33,9 @@ abbrev pub answer_text : ℕ → Answer → List ℕ
 answer_text n a = output_line n (answer_of a) (value_of a)
 
 -- the call of a line, if one ended, and its output line
-unfoldable pub served_end : State → Ended → Served
-served_end s No = record { after = s; output = [] }
-served_end s (Yes c) =
+unfoldable pub served_end : State → Option Command → Served
+served_end s None = record { after = s; output = [] }
+served_end s (Some c) =
     let o = bench_call s.store c in
     record { after = record { store = o.after; line = s.line; number = s.number + 1 }; output = answer_text s.number o.answer }
 

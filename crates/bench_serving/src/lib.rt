@@ -8,9 +8,11 @@ ghost use Rattle.bench_serving.specs.Serving.{served_end, served_byte, served, s
 ghost use Rattle.bench_serving.specs.Held.{state_of, held, filled, started, emptied, told, Fits};
 
 use areas::Answer;
-use bench_feeding::{Ended, Line};
+use bench_feeding::Line;
+use bench_names::Command;
 
-// Where the serving stands: the line so far, the number of the next one, and the bytes of the output buffer that are used.
+// Where the serving stands: the line so far, the number of the next one, and the bytes of the output buffer that are used. The buffer is
+// lent, in fixed memory.
 #[derive(Clone, Copy)]
 pub struct Place {
     pub line: Line,
@@ -58,14 +60,14 @@ fn serve_end(
     work: &mut [u32],
     out: &mut [u8],
     place: Place,
-    ended: Ended,
+    ended: Option<Command>,
 ) -> Place
     requires { Fits place out.old 1 }
     ensures { held (areas stored.new copies.new received.new log.new counts.new work.new) result out.new ≡ filled (served_end (state_of (areas stored.old copies.old received.old log.old counts.old work.old) place) ended) place.used out.old }
 {
     match ended {
-        Ended::No => place,
-        Ended::Yes(c) => {
+        None => place,
+        Some(c) => {
             let a = bench_calls::serve(stored, copies, received, log, counts, work, c);
             tell(out, place, a)
         }
@@ -113,17 +115,9 @@ pub fn serve_bytes(
     requires { Fits (emptied place) out.old (length bytes.now) }
     ensures { held (areas stored.new copies.new received.new log.new counts.new work.new) result out.new ≡ filled (served (state_of (areas stored.old copies.old received.old log.old counts.old work.old) place) bytes.now) 0 out.old }
 {
-    let line = place.line;
-    let number = place.number;
-    let mut at = Place {
-        line,
-        number,
-        used: 0,
-    };
-    for i in 0..bytes.len() {
-        at = serve_byte(
-            stored, copies, received, log, counts, work, out, at, bytes[i],
-        );
+    let mut at = Place { used: 0, ..place };
+    for &b in bytes {
+        at = serve_byte(stored, copies, received, log, counts, work, out, at, b);
     }
     at
 }
@@ -146,8 +140,8 @@ pub fn serve_last(
     let next = bench_feeding::no_line();
     let at = Place {
         line: next,
-        number: place.number,
         used: 0,
+        ..place
     };
     serve_end(stored, copies, received, log, counts, work, out, at, last)
 }

@@ -1,5 +1,5 @@
 -- The full pages where a running transaction writes: the committed state with the changes that it has left, oldest first. Assumes nothing.
-use Prim.Native.Nat.{ℕ, ◌-◌}
+use Prim.Native.Nat.{ℕ}
 use mathlib.Core.Path.{◌≡◌, refl, sym, ap, ◌∙◌}
 use mathlib.Core.Bool.{Bool, true, false, not, ◌&&◌, ◌||◌}
 use mathlib.Core.List.{List, [], ◌∷◌}
@@ -15,7 +15,6 @@ use Rattle.collector.specs.Undo.{Item}
 use Rattle.machine_view.specs.View.{applied}
 use Rattle.book.specs.Lines.{Line, is_left, has_commit, filtered}
 use Rattle.book.specs.Books.{Book, runs, counts_committed, counts_full}
-use Rattle.book.specs.Feeding.{undoes}
 use Rattle.book_laws.specs.Seen.{Seen, touches, seen, seen_committed, seen_full}
 use Rattle.book_laws.specs.Striking.{entries, Every, Away, Backs, nothing, past, here}
 use Rattle.book_laws.specs.Keeping.{In, Runs, BookInv, Writers}

@@ -13,8 +13,9 @@ ghost use Rattle.calls.specs.Chains.{chain_words, chain_tests, shown};
 ghost use Rattle.chain_laws.specs.Links.{Object};
 
 use areas::{Check, Refusal};
+use chain_search::Search;
 use page_ops::change;
-use pages::{MAX_OBJECTS, SLOTS};
+use pages::SLOTS;
 
 // Refusals 3 and 15 of a chain: there is no such object, or its slot is free in the copies.
 pub fn chain_check(copies: &[u32], n: usize, o: u32) -> Check
@@ -22,12 +23,12 @@ pub fn chain_check(copies: &[u32], n: usize, o: u32) -> Check
     ensures { result ≡ verdict (chain_tests (areas [] copies.now [] [] [] []) n o) }
 {
     if !((1 <= o) & (o as usize <= SLOTS * n)) {
-        return Check::Refuse(Refusal::OutOfRange);
+        return Err(Refusal::OutOfRange);
     }
     if change::occupied(copies, o) {
-        return Check::Accept;
+        return Ok(());
     }
-    Check::Refuse(Refusal::Free)
+    Err(Refusal::Free)
 }
 
 // What an accepted chain does: the chain goes into the buffer. Answers its number of objects.
@@ -35,14 +36,13 @@ pub fn chain_apply(copies: &[u32], buffer: &mut [u32], n: usize, o: u32) -> u32
     requires { (length copies.now ≡ page_words * n) × (1 ≤ n) × (n ≤ max_pages) × (area_sound copies.now n ≡ true) × Object n o × (length buffer.old ≡ chain_words) }
     ensures { (result ≡ length (chain_in copies.now n o)) × (buffer.new ≡ shown (chain_in copies.now n o)) }
 {
-    let mut from = [0u32; MAX_OBJECTS];
-    let mut queue = [0u32; MAX_OBJECTS];
-    if !chain_search::search(copies, n, &mut from, &mut queue, o) {
+    let mut found = Search::new();
+    if !found.search(copies, n, o) {
         trace::clear(buffer, 0);
         return 0;
     }
-    let d = trace::trace(&from, &mut queue, o);
-    trace::show(&queue, buffer, d);
+    let d = trace::trace(&found.from, &mut found.queue, o);
+    trace::show(&found.queue, buffer, d);
     trace::clear(buffer, d);
     d as u32
 }

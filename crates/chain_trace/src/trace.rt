@@ -14,6 +14,7 @@ pub fn trace(from: &[u32; MAX_OBJECTS], queue: &mut [u32; MAX_OBJECTS], o: u32) 
     queue[0] = o;
     let mut x = o;
     let mut d: usize = 1;
+    // A while: the way back ends at the root, after a number of links that nothing tells before.
     while x != ROOT {
         x = from[(x - 1) as usize];
         queue[d] = x;
@@ -23,10 +24,12 @@ pub fn trace(from: &[u32; MAX_OBJECTS], queue: &mut [u32; MAX_OBJECTS], o: u32) 
 }
 
 // The first d words of the queue into the buffer, the last one first.
+#[tactic(auto, using(page_laws::specs::Runs::fill_turn), unfolding(words::specs::Spans::fill))]
 pub fn show(queue: &[u32; MAX_OBJECTS], buffer: &mut [u32], d: usize)
     requires { (length buffer.old ≡ chain_words) × (d ≤ chain_words) }
     ensures { buffer.new ≡ shown_from queue.now d buffer.old }
 {
+    // By index: over both at once, the queue from its end, the proof did not close (a zip of iter_mut).
     for i in 0..d {
         buffer[i] = queue[d - 1 - i];
     }
@@ -37,7 +40,5 @@ pub fn clear(buffer: &mut [u32], d: usize)
     requires { (length buffer.old ≡ chain_words) × (d ≤ chain_words) }
     ensures { buffer.new ≡ cleared_from d buffer.old }
 {
-    for i in d..MAX_OBJECTS {
-        buffer[i] = 0;
-    }
+    buffer[d..].fill(0);
 }

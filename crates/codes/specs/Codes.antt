@@ -1,11 +1,9 @@
 -- The answer of a C function. Assumes nothing.
-use Rattle.std.specs.Prelude.{ℕ, ◌+◌, ◌*◌, ◌≤◌, ◌≡◌}
+use Rattle.std.specs.Prelude.{ℕ, ◌+◌, ◌*◌, ◌≤◌, ◌≡◌, Ok, Err}
 use Rattle.std.proofs.Common.{arith, ap, ◌∙◌}
 use Rattle.areas.specs.declared.Refusal.{Refusal}
 use Rattle.areas.specs.declared.Refusal.TheVariants.{Malformed, NotOpen, OutOfRange, WrongState, NotLocked, Held, Unknown, Occupied, Differs, Unflushed, LogFull, Unstable, InUse, Unsound, Free, Unmarked, CommitsOutOfRange, SelfReference, RightMissing}
-use Rattle.areas.specs.declared.Answer.{Answer}
-use Rattle.areas.specs.declared.Answer.TheVariants.{Done, Refused}
-use Rattle.areas.specs.Answers.{number_of, answer_of, value_of}
+use Rattle.areas.specs.Answers.{number_of, answer_of, value_of, Answer}
 use Rattle.areas.specs.Areas.{Areas, Out}
 
 -- the answer's number, and its value, in one word of 64 bits
@@ -35,8 +33,8 @@ number_small SelfReference = omega arith
 number_small RightMissing = omega arith
 
 pub answer_small : (a : Answer) → answer_of a ≤ 24
-answer_small (Done v) = omega arith
-answer_small (Refused x) = number_small x
+answer_small (Ok v) = omega arith
+answer_small (Err x) = number_small x
 
 -- a call's outcome, as a C function tells it: its code, and the areas
 pub told : (n : ℕ) (a : Answer) (s : Areas) (o : Out) → n ≡ coded a → record { answer = a; after = s } ≡ o → (n ≡ coded o.answer) × (s ≡ o.after)

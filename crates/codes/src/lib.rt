@@ -6,7 +6,7 @@ ghost use Rattle.codes.specs.Codes.{coded};
 
 use areas::Answer;
 
-// The number that a C function answers.
+// The number that a C function answers. No `From`: it is one way of several to tell an answer.
 pub fn code(a: Answer) -> u64
     ensures { result ≡ coded a }
 {

@@ -13,7 +13,7 @@ use Rattle.columns.specs.Columns.{columns_of, to_columns, column_at, slots_in, f
 use Rattle.columns.specs.ColumnCalls.{two_pages, arrange_answer, arranged}
 use Rattle.column_laws.specs.Grids.{columns_full, columns_at, slots_full, grid_at, length_laid, head_laid, word_laid, same_grid}
 use Rattle.column_laws.specs.Arranging.{both_pages, lengths, filled}
-use Rattle.column_laws.specs.Arrangements.{ByColumns, Turned, TurnedBack, OneArrangement, EitherOrder, GivesBack, Answers, Answered, CallsGiveBack}
+use Rattle.column_laws.specs.Arrangements.{Turned, TurnedBack, OneArrangement, GivesBack, Answers, Answered, CallsGiveBack}
 
 -- the tables
 rows_turned : (p : List ℕ) (w s : ℕ) → w < slot_words → s < slot_count → get_or (get_or (columns_of (rows_of p 0)) w []) s 0 ≡ slot_word p 0 s w

@@ -1,9 +1,8 @@
 -- Document 02, L5, as statements, 'for all words': p is any list of a page's length. Assumes nothing.
-use Rattle.std.specs.Prelude.{ℕ, ◌<◌, ◌≡◌, true, false, List, length, get_or}
+use Rattle.std.specs.Prelude.{ℕ, ◌<◌, ◌≡◌, true, false, List, length, get_or, Ok, Err}
 use Rattle.pages.specs.Geometry.{slot_count, slot_words, page_words, head_words}
 use Rattle.pages.specs.Objects.{slot_word}
 use Rattle.areas.specs.declared.Refusal.TheVariants.{Malformed}
-use Rattle.areas.specs.declared.Answer.TheVariants.{Done, Refused}
 use Rattle.areas.specs.Answers.{accepted}
 use Rattle.columns.specs.Columns.{to_columns, from_columns, column_at}
 use Rattle.columns.specs.ColumnCalls.{arrange_answer, arranged}
@@ -35,9 +34,9 @@ GivesBack = (p : List ℕ) → length p ≡ page_words → EitherOrder p
 
 -- 'fills a second lent page; a wrong length is 1': refused exactly where a length is wrong, and then nothing changes
 pub record Answers (page out : List ℕ) : Type 0 where
-  pub accepts : length page ≡ page_words → length out ≡ page_words → arrange_answer page out ≡ Done 0
+  pub accepts : length page ≡ page_words → length out ≡ page_words → arrange_answer page out ≡ Ok 0
   pub asked : accepted (arrange_answer page out) ≡ true → (length page ≡ page_words) × (length out ≡ page_words)
-  pub refuses_with : accepted (arrange_answer page out) ≡ false → arrange_answer page out ≡ Refused Malformed
+  pub refuses_with : accepted (arrange_answer page out) ≡ false → arrange_answer page out ≡ Err Malformed
   pub keeps : (f : List ℕ → List ℕ) → accepted (arrange_answer page out) ≡ false → arranged f page out ≡ out
 
 abbrev pub Answered : Type 0

@@ -10,51 +10,31 @@ ghost use Rattle.decimals.specs.Decimal.{decimal};
 // Numbers are decimal.
 const BASE: u64 = 10;
 
-// The digits '0' and '9'.
+// The digit '0'.
 const ZERO: u8 = b'0';
 
-const NINE: u8 = b'9';
-
-// The largest number that is read: it has 32 bits.
-const LARGEST: u64 = 4294967295;
-
-// A text read as a number.
-#[derive(Clone, Copy)]
-pub enum Number {
-    Is(u32),
-    Not,
-}
-
 // The number that a text writes.
-pub fn number_of(s: &[u8]) -> Number
+#[tactic(auto, using(crate::proofs::NumberLaws::number_empty, crate::proofs::NumberLaws::number_leads, crate::proofs::NumberLaws::number_starts))]
+pub fn number_of(s: &[u8]) -> Option<u32>
     ensures { result ≡ number_in s.now }
 {
-    if s.len() == 0 {
-        return Number::Not;
+    if s.is_empty() {
+        return None;
     }
-    if (s[0] == ZERO) & (1 < s.len()) {
-        return Number::Not;
+    if s[0] == ZERO && 1 < s.len() {
+        return None;
     }
-    let mut n: u64 = 0;
-    let mut i: usize = 0;
-    while i < s.len() {
-        let b = s[i];
-        if b < ZERO {
-            return Number::Not;
+    let mut n: u32 = 0;
+    for &b in s {
+        if !b.is_ascii_digit() {
+            return None;
         }
-        if NINE < b {
-            return Number::Not;
-        }
-        n = BASE * n + ((b - ZERO) as u64);
-        if LARGEST < n {
-            return Number::Not;
-        }
-        i += 1;
+        n = u32::try_from(BASE * u64::from(n) + u64::from(b - ZERO)).ok()?;
     }
-    Number::Is(n as u32)
+    Some(n)
 }
 
-// Writes the decimal digits of n from `at`, and answers where they end.
+// Writes the decimal digits of n from `at`, and answers where they end: the contract is of the bytes, which `write!` does not tell.
 pub fn put_number(buf: &mut [u8], at: usize, n: u64) -> usize
     requires { at + length (decimal n) ≤ length buf.old }
     ensures { (result ≡ at + length (decimal n)) × (result ≤ at + most_digits) × (buf.new ≡ sets buf.old at (decimal n)) }

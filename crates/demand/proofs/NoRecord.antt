@@ -8,7 +8,7 @@ use Rattle.machine_view.specs.View.{view}
 use Rattle.machine_calls.specs.Tables.{locks_of}
 use Rattle.recovery_proof.proofs.Invariant as Recovery
 use Rattle.recovery_proof.proofs.Decided.{SameCells}
-use Rattle.demand.proofs.State.{received, stable, logged, LogInv}
+use Rattle.demand.proofs.State.{received, logged, LogInv}
 
 -- the log, the counts and the stored pages stay, and so do the lines and who runs
 pub record Quiet (s : Areas) (b : Book) (s' : Areas) (b' : Book) : Type 0 where

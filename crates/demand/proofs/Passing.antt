@@ -1,4 +1,5 @@
 -- An accepted start of a pass, and a pass step that frees nothing, keep the invariant. n is the number of pages. Assumes nothing.
+use Rattle.std.specs.Prelude.{Ok}
 use Prim.Native.Nat.{ℕ, suc, ◌+◌, ◌≤◌, ◌<◌}
 use native.Mathlib.Omega.{arith}
 use native.Mathlib.Decide.{dec_lt}
@@ -10,7 +11,6 @@ use lib.Dec.{eqb, leb, ltb}
 use borrow.Author.Tests.{eqb-true, eqb-false}
 use Rattle.words.specs.Tests.{by_bool}
 use Rattle.pages.specs.Objects.{word_of}
-use Rattle.areas.specs.declared.Check.TheVariants.{Accept}
 use Rattle.areas.specs.Answers.{accepted, verdict}
 use Rattle.areas.specs.Areas.{Areas, Out, with_work}
 use Rattle.areas.specs.Layout.{reopening_at, phase_at, pass_page_at, steps_at, table_words, steps_top}
@@ -193,7 +193,7 @@ open_pass n some s b i a =
 
 -- a pass step, from what a step that frees slots does
 pub open_step : (n : ℕ) → 1 ≤ n → (s : Areas) (b : Book) → OpenInv n s b
-    → (Open s n → phase_of (at s.work phase_at) ≡ M.sweeping → verdict (sweep_tests s n (sweep_map_of s n)) ≡ Accept → (sweep_map_of s n ≡ 0 → ⊥)
+    → (Open s n → phase_of (at s.work phase_at) ≡ M.sweeping → verdict (sweep_tests s n (sweep_map_of s n)) ≡ Ok tt → (sweep_map_of s n ≡ 0 → ⊥)
     → OpenInv n (sweeping s n).after (fed n b step s.received (sweeping s n).after.received))
     → accepted (call_step s).answer ≡ true
     → OpenInv n (call_step s).after (fed n b step s.received (call_step s).after.received)

@@ -16,7 +16,7 @@ use Rattle.areas.specs.Layout.{active_at, readers_at, writers_at, unflushed_at, 
 use Rattle.areas.specs.Tables.{at, has, flag}
 use Rattle.areas.specs.Entry.{pages, reopening}
 use Rattle.book.specs.Lines.{pages_after}
-use Rattle.book.specs.Books.{opened, Book, runs, counts_committed, counts_full, committed_lines, committed_pages}
+use Rattle.book.specs.Books.{opened, Book, counts_committed, counts_full, committed_lines, committed_pages}
 use Rattle.book.specs.Pointers.{Leads}
 use Rattle.collector.specs.Bits as Bits
 use Rattle.collector.specs.Bits.{◌and◌}
@@ -39,7 +39,7 @@ use Rattle.book_laws.specs.Keeping.{SoundBook, BookInv, openly}
 use Rattle.book_laws.proofs.Folds.{seen_agree}
 use Rattle.book_laws.proofs.Pages.{committed_view}
 use Rattle.book_laws.proofs.Running.{runs_none}
-use Rattle.demand.proofs.State.{machine, received, stable, logged, LogInv, Going, OpenInv}
+use Rattle.demand.proofs.State.{machine, received, logged, LogInv, Going, OpenInv}
 use Rattle.demand.proofs.HoldsWaiting.{idle_full}
 use Rattle.records.specs.Records.{txn_count}
 

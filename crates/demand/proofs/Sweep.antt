@@ -1,4 +1,5 @@
 -- A sweeping step that frees objects of its page keeps the invariant. n is the number of pages. Assumes nothing.
+use Rattle.std.specs.Prelude.{Ok}
 use Prim.Native.Nat.{ℕ, zero, suc, ◌+◌, ◌*◌, ◌≤◌, ◌<◌, ◌^◌}
 use native.Mathlib.Omega.{arith}
 use mathlib.Core.Path.{◌≡◌, refl, sym, ap, ◌∙◌}
@@ -18,7 +19,6 @@ use Rattle.records.specs.Records.{sweep_of, txn_count, record_words, recorded}
 use Rattle.records.specs.Effects.{effect}
 use Rattle.records.specs.Soundness.{record_sound}
 use Rattle.records.specs.Order.{open_in, open_next}
-use Rattle.areas.specs.declared.Check.TheVariants.{Accept}
 use Rattle.areas.specs.Answers.{verdict}
 use Rattle.areas.specs.Areas.{Areas, received_count, with_work, appended}
 use Rattle.areas.specs.Layout.{phase_at, pass_page_at}
@@ -289,7 +289,7 @@ module _ (n : ℕ) (some : 1 ≤ n) (s : Areas) (b : Book) (i : OpenInv n s b) (
   lines_fed = sweep_released n s.received h.sized.received_len b.lines page map below small frees was_taken
 
 pub open_sweep : (n : ℕ) → 1 ≤ n → (s : Areas) (b : Book) → OpenInv n s b → Open s n → phase_of (at s.work phase_at) ≡ M.sweeping
-    → verdict (sweep_tests s n (sweep_map_of s n)) ≡ Accept → (sweep_map_of s n ≡ 0 → ⊥)
+    → verdict (sweep_tests s n (sweep_map_of s n)) ≡ Ok tt → (sweep_map_of s n ≡ 0 → ⊥)
     → OpenInv n (sweeping s n).after (fed n b step s.received (sweeping s n).after.received)
 unfolding fed freed_map
 open_sweep n some s b i h ph check on = by_bool (locked s.work n (at s.work pass_page_at))

@@ -30,7 +30,7 @@ use Rattle.areas.specs.Entry.{records}
 use Rattle.acceptance.specs.Lengths.{Sized}
 use Rattle.calls.specs.Marks.{taken_back}
 use Rattle.book.specs.Lines.{Line, line, struck_out, is_left, left, struck_newest, has_commit, newest_creates}
-use Rattle.book.specs.Books.{Book, runs, counts_full, full_lines, full_pages}
+use Rattle.book.specs.Books.{Book, counts_full, full_lines, full_pages}
 use Rattle.book.specs.Feeding as Feeding
 use Rattle.collector.specs.Bits.{◌and◌, ◌or◌, and_intro}
 use Rattle.collector.specs.Objects.{Obj, page_of}

@@ -1,7 +1,8 @@
 -- Masks of the PRT and the COT once a transaction has ended, one by one and in runs. Assumes nothing.
-use Rattle.std.specs.Prelude.{ℕ, zero, suc, ◌+◌, ◌/◌, ◌%◌, ◌^◌, ◌≡◌, refl, true, false, List, eqb}
-use Rattle.std.proofs.Common.{sym, ap, ◌∙◌, add-one, arith}
-use Rattle.std.proofs.lemmas.List.{set-get_or}
+use Rattle.std.specs.Prelude.{ℕ, zero, suc, ◌+◌, ◌/◌, ◌%◌, ◌^◌, ◌<◌, ◌≤◌, ◌≡◌, refl, true, false, List, [], ◌∷◌, length, take, drop, get_or, eqb}
+use mathlib.Core.List.{◌++◌}
+use Rattle.std.proofs.Common.{sym, ap, ◌∙◌, add-one, length-append, length-drop, length-take-le, get_or-take, get_or-drop, arith}
+use Rattle.std.proofs.lemmas.List.{set-get_or, get_or_at, get_or_append_left}
 use Rattle.std.specs.Int.Bits.{bit_or, or_zero_r, or_step}
 use Rattle.std.proofs.lemmas.Nat.{or_shr}
 use borrow.Author.Tests.{eq-eqb, ne_eqb, eqb-false}
@@ -47,9 +48,38 @@ unfoldable pub joined : List ℕ → ℕ → ℕ → ℕ
 joined w a zero = 0
 joined w a (suc k) = bit_or (joined w a k) (at w (a + k))
 
-pub joined_next : (w : List ℕ) (a k x : ℕ) → x ≡ joined w a k → bit_or x (at w (a + k)) ≡ joined w a (k + 1)
+joined_same : (v w : List ℕ) (a b n : ℕ) → ((k : ℕ) → k < n → get_or v (a + k) 0 ≡ get_or w (b + k) 0) → joined v a n ≡ joined w b n
 unfolding joined
-joined_next w a k x e = rw e (ap (joined w a) (sym (add-one k)))
+joined_same v w a b zero h = refl
+joined_same v w a b (suc k) h = rw (joined_same v w a b k (λ i l. h i (omega arith)), h k (omega arith))
+
+-- all masks of a list, as a fold joins them: one mask more
+unfoldable pub all_joined : List ℕ → ℕ
+all_joined v = joined v 0 (length v)
+
+pub none_joined : 0 ≡ all_joined []
+unfolding all_joined joined
+none_joined = refl
+
+pub joined_more : (v : List ℕ) (m : ℕ) → bit_or (all_joined v) m ≡ all_joined (v ++ m ∷ [])
+unfolding all_joined joined
+joined_more v m =
+    let z : List ℕ = v ++ m ∷ [] in
+    let n = length v in
+    let e : length z ≡ suc n = length-append v (m ∷ []) ∙ add-one n in
+    let last : get_or z (0 + n) 0 ≡ m = ap (λ (i : ℕ). get_or z i 0) (omega arith) ∙ get_or_at v m [] 0 n refl in
+    let before : joined z 0 n ≡ joined v 0 n =
+    joined_same z v 0 0 n (λ k l. get_or_append_left v (m ∷ []) 0 (0 + k) (omega arith)) in
+    sym (ap (joined z 0) e ∙ ap (λ (x : ℕ). bit_or x (get_or z (0 + n) 0)) before ∙ ap (bit_or (joined v 0 n)) last)
+
+-- the masks of a part of a list
+pub part_joined : (w : List ℕ) (a n k x : ℕ) → a + n ≤ length w → k ≡ n → x ≡ all_joined (take k (drop a w)) → x ≡ joined w a n
+unfolding all_joined
+part_joined w a n k x h q e =
+    let d = length-drop a w in
+    let l : length (take k (drop a w)) ≡ n = length-take-le k (drop a w) (omega arith) ∙ q in
+    e ∙ ap (joined (take k (drop a w)) 0) l ∙ joined_same (take k (drop a w)) w 0 a n
+    (λ j b. get_or-take k (drop a w) (0 + j) 0 (omega arith) ∙ get_or-drop a w (0 + j) 0 ∙ ap (λ (i : ℕ). get_or w i 0) (omega arith))
 
 -- who is not in two masks together is in neither
 or_apart : (a b t : ℕ) → bit (bit_or a b) t ≡ false → (bit a t ≡ false) × (bit b t ≡ false)

@@ -39,11 +39,7 @@ fn masks_joined(w: &[u32], a: usize) -> u32
     requires { a + slot_count ≤ length w.now }
     ensures { result ≡ joined w.now a slot_count }
 {
-    let mut masks: u32 = 0;
-    for j in 0..SLOTS {
-        masks |= w[a + j];
-    }
-    masks
+    w[a..a + SLOTS].iter().fold(0, |masks, mask| masks | *mask)
 }
 
 // The k masks of the PRT or the COT from word a once t has ended while a pass runs, one by one.
@@ -51,8 +47,8 @@ fn flag_each(w: &mut [u32], a: usize, k: usize, t: u32)
     requires { (a + k ≤ length w.old) × (t < 32) }
     ensures { w.new ≡ over (ended_entry true t) w.old a k }
 {
-    for j in 0..k {
-        w[a + j] = flagged_entry(w[a + j], t);
+    for mask in &mut w[a..a + k] {
+        *mask = flagged_entry(*mask, t);
     }
 }
 

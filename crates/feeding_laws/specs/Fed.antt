@@ -1,10 +1,8 @@
 -- An input fed byte by byte: its commands, and what the line so far stands for.
-use Rattle.std.specs.Prelude.{ℕ, ◌≤◌, ◌<◌, ◌≡◌, List, [], ◌∷◌, length, take}
+use Rattle.std.specs.Prelude.{ℕ, ◌≤◌, ◌<◌, ◌≡◌, List, [], ◌∷◌, Option, Some, None, length, take}
 use Rattle.bench_names.specs.declared.Command.{Command}
 use Rattle.bench_feeding.specs.Reading.{line_bytes, more, fed, finished}
 use Rattle.bench_feeding.specs.declared.Line.{Line}
-use Rattle.bench_feeding.specs.declared.Ended.{Ended}
-use Rattle.bench_feeding.specs.declared.Ended.TheVariants.{No, Yes}
 
 -- what a line stands for: these are the bytes of the input's line so far, but for a CR that came last
 pub record Stands (l : Line) (seen : List ℕ) : Type 0 where
@@ -14,9 +12,9 @@ pub record Stands (l : Line) (seen : List ℕ) : Type 0 where
   pub long : line_bytes < length seen → l.count ≡ more
 
 -- the command of a line that ended goes before the others
-abbrev pub and_then : Ended → List Command → List Command
-and_then No cs = cs
-and_then (Yes c) cs = c ∷ cs
+abbrev pub and_then : Option Command → List Command → List Command
+and_then None cs = cs
+and_then (Some c) cs = c ∷ cs
 
 -- the commands of an input that is fed byte by byte, and then finished
 unfoldable pub commands_from : Line → List ℕ → List Command

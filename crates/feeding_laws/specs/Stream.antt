@@ -1,5 +1,5 @@
 -- Bytes fed one by one give the commands of the input's lines.
-use Rattle.std.specs.Prelude.{ℕ, suc, ◌+◌, ◌<◌, ◌≤◌, ◌≡◌, refl, Bool, true, false, ◌&&◌, cond as if, ltb, leb, eqb, length, set}
+use Rattle.std.specs.Prelude.{ℕ, suc, ◌+◌, ◌<◌, ◌≤◌, ◌≡◌, refl, Bool, true, false, ◌&&◌, cond as if, Option, Some, ltb, leb, eqb, length, set}
 use Rattle.std.proofs.Math.Path.{sym, ap, subst⁻¹}
 use Rattle.std.proofs.Common.{◌∙◌, add-one, arith, length-append, length-set, take-suc-set, lt-ltb, le-ltb, ltb-true, ltb-false, leb-true, leb-false, eqb-true, ne_eqb}
 use mathlib.Core.List.{List, [], ◌∷◌, ◌++◌, map, append-nil}
@@ -11,8 +11,6 @@ use Rattle.bench_commands.specs.Commands.{command_of}
 use Rattle.bench_feeding.specs.Reading.{line_bytes, more, no_line, pushed, settled, held_command, fed}
 use Rattle.bench_names.specs.declared.Command.{Command}
 use Rattle.bench_feeding.specs.declared.Line.{Line}
-use Rattle.bench_feeding.specs.declared.Ended.{Ended}
-use Rattle.bench_feeding.specs.declared.Ended.TheVariants.{Yes}
 use Rattle.bench_feeding.specs.declared.Fed.{Fed}
 use Rattle.bench_feeding.specs.Steps.{if_t, if_f, with_cr, going, settled_cr, settled_not, fed_end, fed_cr, fed_byte, finished_none, finished_some}
 use Rattle.feeding_laws.specs.Fed.{Stands, and_then, commands_from}
@@ -156,9 +154,9 @@ Right bs = (l : Line) (seen : List ℕ) → Stands l seen → (t : Bool) → l.c
 -- the input ends, with l₁ the line that is left
 ends : (l l₁ : Line) (seen : List ℕ) → settled l ≡ l₁ → Stands l₁ seen → commands_from l [] ≡ map command_of (joined seen [])
 unfolding commands_from joined
-ends l l₁ [] e st = ap (λ (x : Ended). and_then x []) (finished_none l (ap (λ (m : Line). m.count) e ∙ st.short (omega arith)))
+ends l l₁ [] e st = ap (λ (x : Option Command). and_then x []) (finished_none l (ap (λ (m : Line). m.count) e ∙ st.short (omega arith)))
 ends l l₁ (s ∷ ss) e st =
-    ap (λ (x : Ended). and_then x []) (finished_some l (λ z. some_by l₁ s ss st (leb (suc (length ss)) line_bytes) refl (sym (ap (λ (m : Line). m.count) e) ∙ z)))
+    ap (λ (x : Option Command). and_then x []) (finished_some l (λ z. some_by l₁ s ss st (leb (suc (length ss)) line_bytes) refl (sym (ap (λ (m : Line). m.count) e) ∙ z)))
     ∙ ap (λ (c : Command). c ∷ []) (ap held_command e ∙ stands_held l₁ (s ∷ ss) st)
     ∙ ap (map command_of) (sym (joined_none s ss))
 
@@ -190,7 +188,7 @@ after_cr : (t : Bool) (l : Line) (seen : List ℕ) (b : ℕ) (bs : List ℕ) →
     → commands_from l (b ∷ bs) ≡ rest seen (cr ∷ b ∷ bs)
 unfolding joined
 after_cr true l seen b bs q e st right =
-    from_byte l b bs (record { line = no_line; ended = Yes (held_command l) }) (fed_end l b (ap (λ (t : Bool). t && eqb b lf) e ∙ q))
+    from_byte l b bs (record { line = no_line; ended = Some (held_command l) }) (fed_end l b (ap (λ (t : Bool). t && eqb b lf) e ∙ q))
     ∙ ap (λ (c : Command). c ∷ commands_from no_line bs) (stands_held l seen st ∙ ap command_of (sym (append-nil seen)))
     ∙ ap (λ (cs : List Command). command_of (seen ++ []) ∷ cs) (right no_line [] stands_none false (unfold no_line in refl))
     ∙ ap (map command_of) (sym (joined_line seen [] (lines_of bs)) ∙ ap (joined seen) (sym (lines_end b bs q)))

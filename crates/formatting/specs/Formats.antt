@@ -1,12 +1,11 @@
 -- What formatting makes of each area, by its length, and that these together are the formatted store. Assumes nothing.
-use Rattle.std.specs.Prelude.{ℕ, ◌*◌, ◌≡◌, true, false, List, length}
+use Rattle.std.specs.Prelude.{ℕ, ◌*◌, ◌≡◌, true, false, List, length, Ok, Err}
 use Rattle.std.proofs.Math.Path.{refl, ap}
 use Rattle.std.proofs.Common.{sym, ◌∙◌}
 use Rattle.std.proofs.Math.ListN.{set, replicate}
 use Rattle.pages.specs.Geometry.{page_words, root}
 use Rattle.pages.specs.Objects.{occupy, formatted_pages}
 use Rattle.areas.specs.declared.Refusal.TheVariants.{Malformed}
-use Rattle.areas.specs.declared.Answer.TheVariants.{Done, Refused}
 use Rattle.areas.specs.Answers.{all_passed, need_holds, need_fails}
 use Rattle.areas.specs.Areas.{areas, out, done, checked_pass, checked_refuse}
 use Rattle.areas.specs.Layout.{reopening_at, finished}
@@ -35,7 +34,7 @@ same_areas : {s s' c c' r r' g g' k k' w w' : List ℕ} → s ≡ s' → c ≡ c
 same_areas es ec er eg ek ew = cc
 
 module _ (s c r g k w : List ℕ) where
-  pub format_refuses : fit (areas s c r g k w) ≡ false → out (Refused Malformed) s c r g k w ≡ call_format (areas s c r g k w)
+  pub format_refuses : fit (areas s c r g k w) ≡ false → out (Err Malformed) s c r g k w ≡ call_format (areas s c r g k w)
   unfolding call_format format_tests
   format_refuses h = checked_refuse _ _ _ _ (sym (need_fails _ _ _ _ h))
 
@@ -49,6 +48,6 @@ module _ (s c r g k w : List ℕ) where
 
   pub format_done : {s' c' r' g' k' w' : List ℕ} → fit (areas s c r g k w) ≡ true
       → s' ≡ formatted_area s → c' ≡ formatted_area c → r' ≡ formatted_area r → g' ≡ zeros g → k' ≡ zeros k → w' ≡ formatted_work w
-      → out (Done 0) s' c' r' g' k' w' ≡ call_format (areas s c r g k w)
+      → out (Ok 0) s' c' r' g' k' w' ≡ call_format (areas s c r g k w)
   unfolding call_format format_tests
   format_done h es ec er eg ek ew = ap (done 0) (same_areas es ec er eg ek ew ∙ all_formatted h) ∙ checked_pass _ _ _ (sym (all_passed ∙ need_holds _ _ _ _ h))

@@ -48,7 +48,7 @@ pub fn format(
         counts.len(),
         work.len(),
     ) {
-        return Answer::Refused(Refusal::Malformed);
+        return Err(Refusal::Malformed);
     }
     format_pages(stored);
     format_pages(copies);
@@ -56,5 +56,5 @@ pub fn format(
     page_ops::areas::clear(log);
     page_ops::areas::clear(counts);
     format_tables(work);
-    Answer::Done(0)
+    Ok(0)
 }

@@ -30,18 +30,15 @@ pub fn back_check(log: &[u32], counts: &[u32], work: &[u32], n: usize, t: u32, m
     requires has_undoing { HasUndoing work.now n (get_or counts.now 0 0) }
     ensures { result ≡ verdict (back_tests (areas [] [] [] log.now counts.now work.now) n t m) }
 {
-    let k = marks::mark_check(work, t, m);
-    if let Check::Refuse(x) = k {
-        return Check::Refuse(x);
-    }
+    marks::mark_check(work, t, m)?;
     if work[layout::order_at(n, t as usize, m as usize)] == 0 {
-        return Check::Refuse(Refusal::Unmarked);
+        return Err(Refusal::Unmarked);
     }
     let since = since_mark(log, counts, work, n, t, m);
     if transactions::room_within(log, counts, since as usize) {
-        Check::Accept
+        Ok(())
     } else {
-        Check::Refuse(Refusal::LogFull)
+        Err(Refusal::LogFull)
     }
 }
 

@@ -1,4 +1,5 @@
 -- A store is fine at every point of every list of calls and cuts. n is the number of pages. Assumes nothing.
+use Rattle.std.specs.Prelude.{Ok}
 use Prim.Native.Nat.{ℕ, zero, suc, ◌+◌, ◌*◌, ◌≤◌, ◌<◌}
 use native.Mathlib.Omega.{arith}
 use mathlib.Core.Path.{◌≡◌, refl, sym, ap, ◌∙◌, subst}
@@ -17,7 +18,6 @@ use Rattle.page_laws.specs.SoundFacts.{copied_sound}
 use Rattle.page_laws.specs.ViewLaws.{length_copied}
 use Rattle.record_laws.specs.RecordLaws.{log_sound_records}
 use Rattle.record_laws.specs.EffectLaws.{length_recovered}
-use Rattle.areas.specs.declared.Check.TheVariants.{Accept}
 use Rattle.areas.specs.Answers.{accepted, Test, verdict}
 use Rattle.areas.specs.Areas.{Areas, Out, received_count, stable_count}
 use Rattle.areas.specs.Layout.{reopening_page_at, phase_at, pass_page_at, undoing_at, work_words}
@@ -170,11 +170,11 @@ restep_fine n some s b f v a j =
 
 -- an accepted call of an open store, by what it went through
 fine_through : (own : Bool) (s : Areas) (tests : ℕ → List Test) (o : Out) (k : ℕ → Out) (n : ℕ) (b' : Book) → Outcome true own s tests o k → accepted o.answer ≡ true → pages s ≡ n
-    → OpenInv n o.after b' → (Open s n → verdict (tests n) ≡ Accept → OpenInv n (k n).after b' → Fine n (k n).after b') → Fine n o.after b'
+    → OpenInv n o.after b' → (Open s n → verdict (tests n) ≡ Ok tt → OpenInv n (k n).after b' → Fine n (k n).after b') → Fine n o.after b'
 fine_through own s tests o k n b' h a size j f = through own s tests o k n (λ x. OpenInv n x b' → Fine n x b') h a size f j
 
 -- a pass step
-sweep_fine : (n : ℕ) → 1 ≤ n → (s : Areas) (b : Book) → OpenInv n s b → Fine n s b → Open s n → phase_of (at s.work phase_at) ≡ M.sweeping → verdict (sweep_tests s n (sweep_map_of s n)) ≡ Accept → (sweep_map_of s n ≡ 0 → ⊥)
+sweep_fine : (n : ℕ) → 1 ≤ n → (s : Areas) (b : Book) → OpenInv n s b → Fine n s b → Open s n → phase_of (at s.work phase_at) ≡ M.sweeping → verdict (sweep_tests s n (sweep_map_of s n)) ≡ Ok tt → (sweep_map_of s n ≡ 0 → ⊥)
     → OpenInv n (sweeping s n).after (fed n b step s.received (sweeping s n).after.received) → Fine n (sweeping s n).after (fed n b step s.received (sweeping s n).after.received)
 unfolding fed freed_map
 sweep_fine n some s b i f h ph check on j = let p = at s.work pass_page_at in by_bool (locked s.work n p)

@@ -1,4 +1,5 @@
 -- Whom refusal 6 tells, of every store; with the right, and the value forgotten, locks are as before, and without it they change nothing. n is the number of pages. Assumes nothing.
+use Rattle.std.specs.Prelude.{Ok}
 use Prim.Native.Nat.{ℕ, ◌^◌, ◌<◌, ◌≤◌}
 use native.Mathlib.Omega.{arith}
 use mathlib.Core.Path.{◌≡◌, refl, sym, ap, ◌∙◌}
@@ -12,9 +13,7 @@ use Rattle.words.specs.Lowest.{lowest_bound, lowest_first}
 use Rattle.page_laws.specs.BitLaws.{or_none, or_others}
 use Rattle.records.specs.Records.{txn_count}
 use Rattle.areas.specs.declared.Refusal.TheVariants.{Malformed, NotOpen, OutOfRange, WrongState, Held, RightMissing}
-use Rattle.areas.specs.declared.Check.{Check}
-use Rattle.areas.specs.declared.Check.TheVariants.{Accept}
-use Rattle.areas.specs.Answers.{unless, verdict}
+use Rattle.areas.specs.Answers.{unless, verdict, Check}
 use Rattle.areas.specs.Areas.{Areas, Out, done, checked, with_work}
 use Rattle.areas.specs.Layout.{readers_at, writers_at, reading, writing}
 use Rattle.areas.specs.Tables.{at, has, is_txn, is_active, can_read}
@@ -40,11 +39,11 @@ tests s t p right free =
     record { form = well_formed true s; ready = is_ready true s; range = is_txn t && ltb p (pages s); active = is_active s.work t; right = may_lock s.work (pages s) t p right; free = free }
 
 abbrev pub tested : Tests → ℕ → Check
-tested c h = unless c.form Malformed (unless c.ready NotOpen (unless c.range OutOfRange (unless c.active WrongState (unless c.right RightMissing (unless c.free (Held h) Accept)))))
+tested c h = unless c.form Malformed (unless c.ready NotOpen (unless c.range OutOfRange (unless c.active WrongState (unless c.right RightMissing (unless c.free (Held h) (Ok tt))))))
 
 -- without 19
 abbrev plainly : Tests → ℕ → Check
-plainly c h = unless c.form Malformed (unless c.ready NotOpen (unless c.range OutOfRange (unless c.active WrongState (unless c.free (Held h) Accept))))
+plainly c h = unless c.form Malformed (unless c.ready NotOpen (unless c.range OutOfRange (unless c.active WrongState (unless c.free (Held h) (Ok tt)))))
 
 -- and of each lock
 abbrev pub read_free : Areas → ℕ → ℕ → Bool

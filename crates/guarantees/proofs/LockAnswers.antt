@@ -1,5 +1,6 @@
 -- What a running transaction that asks for a lock is answered, by the ledgers of locks and of rights, at every point of every list. n is the
 -- number of pages. Assumes nothing.
+use Rattle.std.specs.Prelude.{Ok, Err}
 use Prim.Native.Nat.{ℕ, ◌<◌}
 use mathlib.Core.Path.{◌≡◌, refl, sym, ap, ◌∙◌}
 use mathlib.Core.Bool.{Bool, true, false, not, ◌&&◌}
@@ -8,8 +9,6 @@ use borrow.Author.Tests.{eq-eqb, lt-ltb}
 use Rattle.words.specs.Tests.{if, any, any_same}
 use Rattle.records.specs.Records.{txn_count}
 use Rattle.areas.specs.declared.Refusal.TheVariants.{Held, RightMissing}
-use Rattle.areas.specs.declared.Answer.TheVariants.{Done, Refused}
-use Rattle.areas.specs.declared.Check.TheVariants.{Accept}
 use Rattle.areas.specs.Answers.{unless}
 use Rattle.areas.specs.Areas.{Areas, done, checked, with_work}
 use Rattle.areas.specs.Layout.{readers_at, writers_at, reading, writing}
@@ -34,13 +33,13 @@ use Rattle.guarantees.proofs.Holders.{writes_bit, holds_bit, holder_by, active_i
 use Rattle.guarantees.proofs.Permitted.{Permitted, right_by, Lawful, keep_lawful, start_lawful, disk_lawful}
 
 -- past refusals 1 to 4
-answered : (r x : Bool) (h : ℕ) (s a : Areas) → (checked (unless r RightMissing (unless (not x) (Held h) Accept)) s (done 0 a)).answer ≡ if r (if x (Refused (Held h)) (Done 0)) (Refused RightMissing)
+answered : (r x : Bool) (h : ℕ) (s a : Areas) → (checked (unless r RightMissing (unless (not x) (Held h) (Ok tt))) s (done 0 a)).answer ≡ if r (if x (Err (Held h)) (Ok 0)) (Err RightMissing)
 answered true true h s a = refl
 answered true false h s a = refl
 answered false x h s a = refl
 
 answers : (c : Tests) (h : ℕ) (s a : Areas) → c.form ≡ true → c.ready ≡ true → c.range ≡ true → c.active ≡ true → (r : Bool) → c.right ≡ r → (x : Bool) → c.free ≡ not x
-    → (checked (tested c h) s (done 0 a)).answer ≡ if r (if x (Refused (Held h)) (Done 0)) (Refused RightMissing)
+    → (checked (tested c h) s (done 0 a)).answer ≡ if r (if x (Err (Held h)) (Ok 0)) (Err RightMissing)
 answers c h s a e1 e2 e3 e4 r e5 x e6 = rw (e1, e2, e3, e4, e5, e6) (answered r x h s a)
 
 -- an open store, by the ledgers and the book

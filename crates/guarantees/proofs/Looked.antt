@@ -1,8 +1,8 @@
 -- An accepted call that only looks: what it went through, and its outcome. Assumes nothing.
+use Rattle.std.specs.Prelude.{Ok}
 use Prim.Native.Nat.{ℕ}
 use mathlib.Core.Path.{◌≡◌, sym, ap, subst}
 use mathlib.Core.Bool.{true}
-use Rattle.areas.specs.declared.Answer.TheVariants.{Done}
 use Rattle.areas.specs.Answers.{accepted}
 use Rattle.areas.specs.Areas.{Areas, done}
 use Rattle.areas.specs.Entry.{pages}
@@ -10,7 +10,7 @@ use Rattle.calls.specs.Looks.{Look, call_look}
 use Rattle.acceptance.specs.Ran.{Ran}
 use Rattle.acceptance.specs.Looks.{look_outcome}
 
-module _ (s : Areas) (q : Look) (v : ℕ) (t : (call_look s q).answer ≡ Done v) where
+module _ (s : Areas) (q : Look) (v : ℕ) (t : (call_look s q).answer ≡ Ok v) where
   pub look_ran : Ran true q.own s (q.tests s) (call_look s q) (λ n. done (q.value s n) s)
   look_ran = (look_outcome s q).ran (ap accepted t)
 

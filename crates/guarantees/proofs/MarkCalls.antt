@@ -1,5 +1,6 @@
 -- What the ledger notes at marks is what the book and the words say of them, at every point of every list. n is the number of pages.
 -- Assumes nothing.
+use Rattle.std.specs.Prelude.{Ok}
 use Prim.Native.Nat.{ℕ, suc, ◌+◌, ◌≤◌, ◌<◌}
 use native.Mathlib.Omega.{arith}
 use mathlib.Core.Path.{◌≡◌, refl, sym, ap, ◌∙◌, subst}
@@ -14,7 +15,6 @@ use Rattle.words.specs.Spans.{zero_at}
 use Rattle.pages.specs.Geometry.{page_words, slot_words, page_of}
 use Rattle.pages.specs.Objects.{word_of}
 use Rattle.records.specs.Records.{txn_count, create_of, set_of, sweep_of}
-use Rattle.areas.specs.declared.Check.TheVariants.{Accept}
 use Rattle.areas.specs.Answers.{accepted, verdict}
 use Rattle.areas.specs.Areas.{Areas, Out}
 use Rattle.areas.specs.Layout.{phase_at, pass_page_at, reopening_at, reopening_page_at, finished, mark_count, order_at, undoing_at, work_words}
@@ -96,7 +96,7 @@ module _ (n : ℕ) (some : 1 ≤ n) (s : Areas) (b : Book) (i : OpenInv n s b) (
   idle_marks : (w : List ℕ) → Behind n s.work w → OfTxn n w (fed n b step s.received s.received) l t
   idle_marks w e = rw (step_adds_none n b s.received) (quiet n s.work w b b l l t o (behind_orders n s.work w t e) refl refl refl refl (λ p d. d) refl refl)
 
-  sweep_marks : phase_of (at s.work phase_at) ≡ M.sweeping → verdict (sweep_tests s n (sweep_map_of s n)) ≡ Accept → (sweep_map_of s n ≡ 0 → ⊥)
+  sweep_marks : phase_of (at s.work phase_at) ≡ M.sweeping → verdict (sweep_tests s n (sweep_map_of s n)) ≡ Ok tt → (sweep_map_of s n ≡ 0 → ⊥)
       → OfTxn n (sweeping s n).after.work (fed n b step s.received (sweeping s n).after.received) l t
   unfolding fed freed_map
   sweep_marks ph check on = let p = at s.work pass_page_at in by_bool (locked s.work n p)

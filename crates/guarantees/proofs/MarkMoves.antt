@@ -17,7 +17,6 @@ use Rattle.records.specs.Records.{txn_count}
 use Rattle.areas.specs.Areas.{Areas}
 use Rattle.areas.specs.Entry.{records}
 use Rattle.areas.specs.Layout.{mark_count, marked_at, order_at, order_top, undoing_from}
-use Rattle.areas.specs.Tables.{at}
 use Rattle.calls.specs.Marks.{order_of, moved_up, others_set, set_last, dropped, since_mark, went_back}
 use Rattle.calls.specs.Transactions.{changes_of}
 use Rattle.acceptance.specs.Entered.{Open}

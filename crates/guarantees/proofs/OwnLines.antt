@@ -28,7 +28,7 @@ use Rattle.book_laws.proofs.Undoing.{strikes_newest, strikes_each}
 use Rattle.book_laws.proofs.GoingBack.{went_lines}
 use Rattle.book_laws.proofs.Soundness.{stop_each}
 
--- word f of object x is a reference word, of whatever page area (`ref-same`)
+-- word f of object x is a reference word, of whatever page area (`ref_same`)
 abbrev pub Ref : ℕ → ℕ → Type 0
 Ref x f = is_ref [] x f ≡ true
 

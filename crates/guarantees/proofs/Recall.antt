@@ -1,4 +1,5 @@
 -- Document 02, L6: what a transaction saw of an object it sees again. n is the number of pages. Assumes nothing.
+use Rattle.std.specs.Prelude.{Ok}
 use Prim.Native.Nat.{ℕ, zero, suc, ◌≤◌, ◌<◌}
 use native.Mathlib.Omega.{arith}
 use mathlib.Core.Path.{◌≡◌, refl, sym, ap, ◌∙◌}
@@ -12,10 +13,7 @@ use Rattle.words.specs.Tests.{by_bool, clash, and_split, or_cases, or_l, or_true
 use Rattle.pages.specs.Geometry.{page_of, slot_of, slot_words, object_count}
 use Rattle.page_laws.specs.Tables.{row_at}
 use Rattle.records.specs.Records.{txn_count}
-use Rattle.areas.specs.declared.Answer.{Answer}
-use Rattle.areas.specs.declared.Answer.TheVariants.{Done}
-use Rattle.areas.specs.declared.Check.TheVariants.{Accept}
-use Rattle.areas.specs.Answers.{accepted, verdict, need_holds, all_passed}
+use Rattle.areas.specs.Answers.{accepted, verdict, need_holds, all_passed, Answer}
 use Rattle.areas.specs.Areas.{Areas, Out}
 use Rattle.areas.specs.Layout.{readers_at}
 use Rattle.areas.specs.Tables.{has, can_read, knows}
@@ -308,7 +306,7 @@ keep_recallable n some q l (call c) u j t x h = by_bool (accepts q c)
 keep_recallable n some q l power u j t x h = clash h refl
 
 -- an accepted read shows the object's words
-pub shows : (r : Answer) (v : ℕ) → r ≡ Done v → (words buffer : List ℕ) → if_accepted r words buffer ≡ words
+pub shows : (r : Answer) (v : ℕ) → r ≡ Ok v → (words buffer : List ℕ) → if_accepted r words buffer ≡ words
 shows r v e words buffer = rw e
 
 module _ (n : ℕ) (q : Point) (l : Recalled) (z : Sure n q) (j : Recallable n q l) (t x : ℕ) (buffer : List ℕ) (fits : length buffer ≡ slot_words) (h : l.has t x ≡ true) where
@@ -341,7 +339,7 @@ module _ (n : ℕ) (q : Point) (l : Recalled) (z : Sure n q) (j : Recallable n q
   object : ObjectFacts n x
   object = (known_facts s.work n t x known).object
 
-  taken : Accept ≡ verdict (read_tests s n t x)
+  taken : (Ok tt) ≡ verdict (read_tests s n t x)
   unfolding read_tests
   taken = all_passed
       ∙ need_holds _ _ _ _ known
@@ -349,10 +347,10 @@ module _ (n : ℕ) (q : Point) (l : Recalled) (z : Sure n q) (j : Recallable n q
       ∙ need_holds _ _ _ _ (active_bit n s b i z.fine (granted s.work n) (agreed s.work n) t runs)
       ∙ need_holds _ _ _ _ (rw (lt-ltb t txn_count small, le-leb 1 x object.low) (le-leb x (object_count n) object.top))
 
-  answered : (call_read s t x buffer).answer ≡ Done (l.word t x 0)
+  answered : (call_read s t x buffer).answer ≡ Ok (l.word t x 0)
   unfolding call_read
   answered = ap (λ (k : Out). k.answer) (sym (called_passed true (eqb (length buffer) slot_words) s (λ m. read_tests s m t x) _ (formed n s b z.fine _ (eq-eqb _ _ fits)) (eq-eqb _ _ i.word) (rw i.size taken)))
-      ∙ ap Done (sym (view_word s.received x o.low 0 (omega arith)) ∙ o.same 0 (omega arith))
+      ∙ ap Ok (sym (view_word s.received x o.low 0 (omega arith)) ∙ o.same 0 (omega arith))
 
   shown_again : (f : ℕ) → f < slot_words → get_or (buffer_after s t x buffer) f 0 ≡ l.word t x f
   unfolding buffer_after

@@ -1,4 +1,5 @@
 -- No call is refused with 14, no end with 11, and no call with 1 but for its own buffers. n is the number of pages. Assumes nothing.
+use Rattle.std.specs.Prelude.{Ok, Err}
 use Prim.Native.Nat.{ℕ, ◌+◌, ◌*◌, ◌-◌, ◌≤◌}
 use native.Mathlib.Omega.{arith}
 use mathlib.Core.Path.{◌≡◌, refl, sym, ap, ◌∙◌}
@@ -14,9 +15,7 @@ use Rattle.pages.specs.Objects.{occupied}
 use Rattle.pages.specs.Soundness.{area_sound, map_sound, refs_sound, page_sound, free_zero}
 use Rattle.records.specs.Recovery.{recoverable}
 use Rattle.areas.specs.declared.Refusal.TheVariants.{Malformed, Unsound}
-use Rattle.areas.specs.declared.Check.{Check}
-use Rattle.areas.specs.declared.Check.TheVariants.{Accept, Refuse}
-use Rattle.areas.specs.Answers.{Test, accepted, need, verdict, spares, answer_of, check_number, need_holds, fails_later, fails_last, spared}
+use Rattle.areas.specs.Answers.{Test, accepted, need, verdict, spares, answer_of, check_number, need_holds, fails_later, fails_last, spared, Check}
 use Rattle.areas.specs.Areas.{Areas, Out, received_count, stable_count, done, checked}
 use Rattle.areas.specs.Layout.{work_words, marked_at}
 use Rattle.areas.specs.Tables.{at, is_txn, is_active, is_marking}
@@ -119,8 +118,8 @@ formed n s b f own e = rw (e, fits n s f.sized, f.sized.count) (by_bool (eqb (re
     (λ z. rw z (f.range (eqb-false (reopening s) 0 z))))
 
 checked_not : (a : ℕ) (c : Check) (s : Areas) (k : Out) → (check_number c ≡ a → ⊥) → (answer_of k.answer ≡ a → ⊥) → answer_of (checked c s k).answer ≡ a → ⊥
-checked_not a Accept s k h g e = g e
-checked_not a (Refuse x) s k h g e = h e
+checked_not a (Ok tt) s k h g e = g e
+checked_not a (Err x) s k h g e = h e
 
 -- a call in the frame, with words in range, that is not refused with number a: neither by refusal 2, nor by its own tests, nor by its outcome
 called_not : (a : ℕ) (must own : Bool) (s : Areas) (tests : ℕ → List Test) (k : ℕ → Out) → well_formed own s ≡ true → (2 ≡ a → ⊥) →

@@ -1,5 +1,6 @@
 -- The share of a pass: what the call shows, that the shares add up, and that a pass whose commits made their steps is over. n is the number
 -- of pages of the store, k that of the pages that the pass covers, m that of the commits. Assumes nothing.
+use Rattle.std.specs.Prelude.{Ok}
 use Prim.Native.Nat.{ℕ, zero, suc, ◌+◌, ◌*◌, ◌≤◌, ◌<◌, min}
 use native.Mathlib.Omega.{arith}
 use native.Mathlib.Nat.{div-add-mod, mod-lt, suc-mul, mul_comm}
@@ -9,7 +10,6 @@ use mathlib.Core.List.{List}
 use lib.Dec.{eqb, ltb, leb}
 use borrow.Author.Tests.{ltb-true, ltb-false, leb-true, eqb-true, ne_eqb}
 use Rattle.words.specs.Tests.{if, sum, by_bool, and_split}
-use Rattle.areas.specs.declared.Answer.TheVariants.{Done}
 use Rattle.areas.specs.Answers.{passed, value_of}
 use Rattle.areas.specs.Areas.{Areas, Out, done}
 use Rattle.areas.specs.Tables.{pass_runs}
@@ -49,7 +49,7 @@ shares_add_up k m some =
     record { divided = omega arith; below = below; all = a ∙ omega arith }
 
 -- an accepted call
-module _ (s : Areas) (b : List ℕ) (m v : ℕ) (t : (call_pass_share s b m).answer ≡ Done v) where
+module _ (s : Areas) (b : List ℕ) (m v : ℕ) (t : (call_pass_share s b m).answer ≡ Ok v) where
   gave : call_pass_share s b m ≡ done (share_whole (covered_in s) m) s
   unfolding call_pass_share pass_share_look
   gave = look_gave s (pass_share_look b m) v t

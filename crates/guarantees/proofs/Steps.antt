@@ -1,4 +1,5 @@
 -- How long a pass takes, by the tally, at every point of every list. n is the number of pages. Assumes nothing.
+use Rattle.std.specs.Prelude.{Err, Ok}
 use Prim.Native.Nat.{ℕ, zero, suc, ◌+◌, ◌≤◌, ◌<◌}
 use native.Mathlib.Omega.{arith}
 use native.Mathlib.Numerals.{add-one}
@@ -9,9 +10,7 @@ use lib.Dec.{eqb, leb}
 use borrow.Author.Tests.{eqb-true, eqb-false, eq-eqb, le-leb, not-true, not-false}
 use Rattle.words.specs.Tests.{count, by_bool, clash}
 use Rattle.pages.specs.Geometry.{object_count}
-use Rattle.areas.specs.declared.Answer.TheVariants.{Refused}
 use Rattle.areas.specs.declared.Refusal.TheVariants.{WrongState, LogFull}
-use Rattle.areas.specs.declared.Check.TheVariants.{Accept}
 use Rattle.areas.specs.Answers.{accepted, unless, verdict, all_passed, need_holds, need_fails}
 use Rattle.areas.specs.Areas.{Areas, Out, checked}
 use Rattle.areas.specs.Layout.{phase_at, pass_page_at, steps_at, colour_at, colour_top}
@@ -134,7 +133,7 @@ module _ (n : ℕ) (q : Point) (l : ℕ) (u : Sure n q) (j : Stepping n q l) whe
   swept_so e d = by_store (λ i. rw size (let k = sweeping_so n s b i u.fine l j.counts e d in omega arith)) (λ r. not_running r e)
 
   -- a step at the bound
-  over_so : b.stage ≡ opened → l ≡ bound_at q → (perform s step).answer ≡ Refused WrongState
+  over_so : b.stage ≡ opened → l ≡ bound_at q → (perform s step).answer ≡ Err WrongState
   unfolding perform call_step step_tests
   over_so e d = let still : pass_runs s.work ≡ false = by_bool (pass_runs s.work) (λ k. absurd (let m = below_so k in omega arith)) (λ k. k) in
       elim u.inv [
@@ -144,17 +143,17 @@ module _ (n : ℕ) (q : Point) (l : ℕ) (u : Sure n q) (j : Stepping n q l) whe
       ]
 
 -- a step past refusals 1, 2 and 4, which is refused
-no_room : (b : Bool) (s : Areas) (o : Out) → accepted o.answer ≡ true → accepted (checked (unless b LogFull Accept) s o).answer ≡ false → (checked (unless b LogFull Accept) s o).answer ≡ Refused LogFull
+no_room : (b : Bool) (s : Areas) (o : Out) → accepted o.answer ≡ true → accepted (checked (unless b LogFull (Ok tt)) s o).answer ≡ false → (checked (unless b LogFull (Ok tt)) s o).answer ≡ Err LogFull
 no_room true s o a e = clash a e
 no_room false s o a e = refl
 
-held_up : (s : Areas) (n : ℕ) → accepted (stepped s n).answer ≡ false → (stepped s n).answer ≡ Refused LogFull
+held_up : (s : Areas) (n : ℕ) → accepted (stepped s n).answer ≡ false → (stepped s n).answer ≡ Err LogFull
 unfolding marked swept sweep_tests verdict
 held_up s n = by_bool (is_marking s.work)
     (λ e. by_bool (leb (lowest_grey s.work n) (object_count n)) (λ k a. clash refl (rw (e, k) at a)) (λ k a. clash refl (rw (e, k) at a)))
     (λ e. rw e (no_room (eqb (sweep_map_of s n) 0 || room_beyond s n sweep_room) s (sweeping s n) refl))
 
-stalls_so : (n : ℕ) (q : Point) (l : ℕ) → Sure n q → Stepping n q l → pass_runs q.store.work ≡ true → accepts q step ≡ false → (perform q.store step).answer ≡ Refused LogFull
+stalls_so : (n : ℕ) (q : Point) (l : ℕ) → Sure n q → Stepping n q l → pass_runs q.store.work ≡ true → accepts q step ≡ false → (perform q.store step).answer ≡ Err LogFull
 unfolding perform call_step step_tests
 stalls_so n q l u j e a = by_store n q l u j
     (λ i. let d = called_passed _ _ q.store _ _ (formed n q.store q.book u.fine true refl) (eq-eqb _ _ i.word) (all_passed ∙ need_holds _ _ _ _ e) in

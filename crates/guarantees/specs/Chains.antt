@@ -1,10 +1,9 @@
 -- Document 02, L1: what an accepted chain shows. Of every store, whatever its words are; and, where no transaction runs, of the committed
 -- state by the book. Assumes nothing.
-use Rattle.std.specs.Prelude.{ℕ, ◌-◌, ◌≡◌, List, ◌∷◌, ◌++◌, length, replicate}
+use Rattle.std.specs.Prelude.{ℕ, ◌-◌, ◌≡◌, List, ◌∷◌, ◌++◌, length, replicate, Ok}
 use Rattle.pages.specs.Geometry.{root}
 use Rattle.reach.specs.Reaching.{Reached}
 use Rattle.reach.specs.Chains.{Chain, Least}
-use Rattle.areas.specs.declared.Answer.TheVariants.{Done}
 use Rattle.areas.specs.Areas.{Areas}
 use Rattle.calls.specs.Calls.{look, perform}
 use Rattle.calls.specs.Chains.{chain_words, chain_look, call_chain, chain_after}
@@ -18,7 +17,7 @@ ChainIsACall = (s : Areas) (buffer : List ℕ) (o : ℕ) → perform s (look (ch
 
 -- asked for the chain of object o, store s answers 0, with value v
 abbrev pub Tells : Areas → List ℕ → ℕ → ℕ → Type 0
-Tells s buffer o v = (call_chain s buffer o).answer ≡ Done v
+Tells s buffer o v = (call_chain s buffer o).answer ≡ Ok v
 
 -- the buffer has a chain in page area a that is ahead of every other one to o, then zeros; v is the number of its objects
 pub record ShowsLeast (a : List ℕ) (s : Areas) (buffer : List ℕ) (o v : ℕ) : Type 0 where

@@ -1,13 +1,11 @@
 -- Document 02, L2: whom refusal 6 tells, and L9: who lacks the right. Of every store, whatever its words are; and over lists, by a ledger of
 -- the locks that were granted and one of the rights.
 -- Assumes nothing.
-use Rattle.std.specs.Prelude.{ℕ, ◌<◌, ◌≤◌, ◌≡◌, Bool, true, false, not, ◌&&◌, ◌||◌, List, [], ◌∷◌, eqb, leb, ltb}
+use Rattle.std.specs.Prelude.{ℕ, ◌<◌, ◌≤◌, ◌≡◌, Bool, true, false, not, ◌&&◌, ◌||◌, List, [], ◌∷◌, eqb, leb, ltb, Ok, Err}
 use Rattle.words.specs.Tests.{if, any, lowest}
 use Rattle.records.specs.Records.{txn_count}
-use Rattle.areas.specs.declared.Answer.{Answer}
-use Rattle.areas.specs.declared.Answer.TheVariants.{Done, Refused}
 use Rattle.areas.specs.declared.Refusal.TheVariants.{OutOfRange, WrongState, Held, RightMissing}
-use Rattle.areas.specs.Answers.{Test, need, number_of, answer_of, value_of}
+use Rattle.areas.specs.Answers.{Test, need, number_of, answer_of, value_of, Answer}
 use Rattle.areas.specs.Areas.{Areas, Out, done, with_work}
 use Rattle.areas.specs.Layout.{readers_at, writers_at, client_at, right_at, reading, writing}
 use Rattle.areas.specs.Tables.{at, is_txn, is_active, can_read}
@@ -57,8 +55,8 @@ plain_write s t p = called true true s (λ n. plain_tests s n t p (no_other s.wo
 
 -- L9, '19, right missing, after 4': in place of a result, and of a refusal 6; a refusal of a lower number stays
 abbrev pub right_first : Answer → Answer
-right_first (Done v) = Refused RightMissing
-right_first (Refused x) = if (eqb (number_of x) 6) (Refused RightMissing) (Refused x)
+right_first (Ok v) = Err RightMissing
+right_first (Err x) = if (eqb (number_of x) 6) (Err RightMissing) (Err x)
 
 -- the same number and the same areas: all but the value
 pub record AsBefore (o o' : Out) : Type 0 where
@@ -140,9 +138,9 @@ Running q t = q.book.running t ≡ 0 → ⊥
 -- told; but 19 comes first
 unfoldable pub answer_by : Granted × Permits → ℕ → ℕ → ℕ → (ℕ → Bool) → Answer
 answer_by l t p right f =
-    let h = Refused (Held (lowest (other t (λ u. holds l.0 u p)) txn_count)) in
-    let a = if (any (other t f) txn_count) h (Done 0) in
-    if (leb right (right_of l.1 t p)) a (Refused RightMissing)
+    let h = Err (Held (lowest (other t (λ u. holds l.0 u p)) txn_count)) in
+    let a = if (any (other t f) txn_count) h (Ok 0) in
+    if (leb right (right_of l.1 t p)) a (Err RightMissing)
 
 -- at a point of a list, by the ledgers of locks and of rights, and the book
 pub record ByLedger (q : Point) (l : Granted × Permits) : Type 0 where

@@ -1,10 +1,9 @@
 -- Document 02, L6: what a reader saw it sees again, though the page was swept under its lock. Over lists, by a ledger of what reads showed.
 -- Assumes nothing.
-use Rattle.std.specs.Prelude.{ℕ, ◌<◌, ◌≡◌, Bool, true, false, not, ◌&&◌, ◌||◌, List, length, get_or, eqb}
+use Rattle.std.specs.Prelude.{ℕ, ◌<◌, ◌≡◌, Bool, true, false, not, ◌&&◌, ◌||◌, List, length, get_or, eqb, Ok}
 use Rattle.words.specs.Tests.{if}
 use Rattle.pages.specs.Geometry.{slot_words}
 use Rattle.pages.specs.Objects.{word_of}
-use Rattle.areas.specs.declared.Answer.TheVariants.{Done}
 use Rattle.calls.specs.Objects.{buffer_after}
 use Rattle.calls.specs.Calls.{Call, perform, begin, commit, abort, grant, lock_read, lock_write, read, create, set_word, flush, force, store, empty, pass, step, reopen, restep, mark, back, look}
 use Rattle.book.specs.Demand.{Point}
@@ -65,7 +64,7 @@ recollection = record { first = unread; enters = recalling; drops = λ l. unread
 -- what t saw of an object it sees again, whatever others did meanwhile and whatever was swept under its lock
 pub record SeenAgain (q : Point) (l : Recalled) : Type 0 where
   -- it is let read the object, and told word 0
-  pub answered : (t x : ℕ) (buffer : List ℕ) → length buffer ≡ slot_words → l.has t x ≡ true → (perform q.store (read t x buffer)).answer ≡ Done (l.word t x 0)
+  pub answered : (t x : ℕ) (buffer : List ℕ) → length buffer ≡ slot_words → l.has t x ≡ true → (perform q.store (read t x buffer)).answer ≡ Ok (l.word t x 0)
   -- and shown the words
   pub shown : (t x : ℕ) (buffer : List ℕ) → length buffer ≡ slot_words → l.has t x ≡ true → (f : ℕ) → f < slot_words → get_or (buffer_after q.store t x buffer) f 0 ≡ l.word t x f
 

@@ -1,8 +1,7 @@
 -- Document 01, 'Refusal table': the refusals that no calls and cuts lead to. Assumes nothing.
-use Rattle.std.specs.Prelude.{ℕ, ◌≡◌, Bool, true, length, eqb}
+use Rattle.std.specs.Prelude.{ℕ, ◌≡◌, Bool, true, length, eqb, Err}
 use Rattle.pages.specs.Geometry.{page_words, slot_words}
 use Rattle.areas.specs.declared.Refusal.TheVariants.{Malformed, LogFull}
-use Rattle.areas.specs.declared.Answer.TheVariants.{Refused}
 use Rattle.calls.specs.Calls.{Call, perform, begin, commit, abort, grant, lock_read, lock_write, read, create, set_word, flush, force, store, empty, pass, step, reopen, restep, mark, back, look}
 use Rattle.book.specs.Demand.{Point, accepts}
 use Rattle.guarantees.specs.Points.{Always}
@@ -17,10 +16,10 @@ NeverUnsound = Always Reopenable
 
 -- 11, 'no log room (for commit and abort only in a state that no calls lead to)'
 pub record Endable (q : Point) : Type 0 where
-  pub commits : (t : ℕ) → (perform q.store (commit t)).answer ≡ Refused LogFull → ⊥
-  pub aborts : (t : ℕ) → (perform q.store (abort t)).answer ≡ Refused LogFull → ⊥
+  pub commits : (t : ℕ) → (perform q.store (commit t)).answer ≡ Err LogFull → ⊥
+  pub aborts : (t : ℕ) → (perform q.store (abort t)).answer ≡ Err LogFull → ⊥
   -- document 02, L3, of going back: 'the undoing uses the reserve'
-  pub backs : (t m : ℕ) → (perform q.store (back t m)).answer ≡ Refused LogFull → ⊥
+  pub backs : (t m : ℕ) → (perform q.store (back t m)).answer ≡ Err LogFull → ⊥
 
 -- at every point of every list, commit, abort and going back have room
 abbrev pub RoomToEnd : Type 0
@@ -51,7 +50,7 @@ own_fits (look q) = q.own
 
 -- 1, 'a length differs, or a working word is out of range': never but for the call's own buffers
 abbrev pub WellFormed : Point → Type 0
-WellFormed q = (c : Call) → own_fits c ≡ true → (perform q.store c).answer ≡ Refused Malformed → ⊥
+WellFormed q = (c : Call) → own_fits c ≡ true → (perform q.store c).answer ≡ Err Malformed → ⊥
 
 -- at every point of every list
 abbrev pub NeverMalformed : Type 0

@@ -1,9 +1,8 @@
 -- Document 02, L9: over lists, by the ledger of begins and of rights given, 'read hands out no word of a page the client may not read, and no
 -- word of a page it may not write is changed'. Assumes nothing.
-use Rattle.std.specs.Prelude.{ℕ, ◌≤◌, ◌<◌, ◌≡◌, true, false, List, length}
+use Rattle.std.specs.Prelude.{ℕ, ◌≤◌, ◌<◌, ◌≡◌, true, false, List, length, Ok}
 use Rattle.pages.specs.Geometry.{page_of, slot_words}
 use Rattle.pages.specs.Objects.{word_of}
-use Rattle.areas.specs.declared.Answer.TheVariants.{Done}
 use Rattle.areas.specs.Areas.{Areas}
 use Rattle.areas.specs.Layout.{client_count, reading, writing}
 use Rattle.areas.specs.Tables.{at}
@@ -28,7 +27,7 @@ pub record PageStays (p : ℕ) (s s' : Areas) : Type 0 where
 pub record HandsOut (s : Areas) (t o : ℕ) (buffer : List ℕ) : Type 0 where
   pub many : length (buffer_after s t o buffer) ≡ slot_words
   pub words : (f : ℕ) → f < slot_words → at (buffer_after s t o buffer) f ≡ word_of s.received o f
-  pub value : (perform s (read t o buffer)).answer ≡ Done (word_of s.received o 0)
+  pub value : (perform s (read t o buffer)).answer ≡ Ok (word_of s.received o 0)
 
 -- at a point of a list, by the ledger
 pub record Isolated (q : Point) (l : Permits) : Type 0 where

@@ -1,9 +1,8 @@
 -- Document 02, L4: the share of a pass that each of a number of commits owes. What the call shows, on every store; that the shares add up;
 -- and over lists, by a ledger of the commits and steps since the start, that a pass whose commits were each followed by what they owe is
 -- over. k is the number of pages that the pass covers, m the number of commits. Assumes nothing.
-use Rattle.std.specs.Prelude.{ℕ, suc, ◌+◌, ◌*◌, ◌≤◌, ◌<◌, ◌≡◌, false, List, [], ◌∷◌}
+use Rattle.std.specs.Prelude.{ℕ, suc, ◌+◌, ◌*◌, ◌≤◌, ◌<◌, ◌≡◌, false, List, [], ◌∷◌, Ok}
 use Rattle.words.specs.Tests.{sum}
-use Rattle.areas.specs.declared.Answer.TheVariants.{Done}
 use Rattle.areas.specs.Areas.{Areas}
 use Rattle.areas.specs.Layout.{steps_top}
 use Rattle.areas.specs.Tables.{pass_runs}
@@ -26,7 +25,7 @@ pub record ShowsShare (s : Areas) (buffer : List ℕ) (m v : ℕ) : Type 0 where
   pub shown : pass_share_after s buffer m ≡ share_whole (covered_in s) m ∷ share_rest (covered_in s) m ∷ []
 
 abbrev pub ShareShown : Type 0
-ShareShown = (s : Areas) (buffer : List ℕ) (m v : ℕ) → (call_pass_share s buffer m).answer ≡ Done v → ShowsShare s buffer m v
+ShareShown = (s : Areas) (buffer : List ℕ) (m v : ℕ) → (call_pass_share s buffer m).answer ≡ Ok v → ShowsShare s buffer m v
 
 -- '17 × P + 1 divided by n, and its remainder r, below n: the first r commits owe one step more': together they owe the bound, no more and
 -- no less

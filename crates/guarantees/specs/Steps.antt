@@ -1,8 +1,7 @@
 -- Document 02, L4: how long a pass takes, over lists, by a tally of its steps that is kept from the list alone. Assumes nothing.
-use Rattle.std.specs.Prelude.{ℕ, suc, ◌+◌, ◌-◌, ◌≤◌, ◌<◌, ◌≡◌, true, false}
+use Rattle.std.specs.Prelude.{ℕ, suc, ◌+◌, ◌-◌, ◌≤◌, ◌<◌, ◌≡◌, true, false, Err}
 use Rattle.words.specs.Tests.{count}
 use Rattle.pages.specs.Geometry.{object_count}
-use Rattle.areas.specs.declared.Answer.TheVariants.{Refused}
 use Rattle.areas.specs.declared.Refusal.TheVariants.{WrongState, LogFull}
 use Rattle.areas.specs.Areas.{Areas}
 use Rattle.areas.specs.Layout.{pass_page_at, steps_at}
@@ -83,9 +82,9 @@ pub record Tallied (q : Point) (l : ℕ) : Type 0 where
   pub swept : pass_runs q.store.work ≡ true → is_marking q.store.work ≡ false → l ≡ scanned_at q + 1 + swept_at q
   -- so a step that reaches the bound ends the pass, and the next one is refused with 4
   pub ends : accepts q step ≡ true → l + 1 ≡ bound_at q → pass_runs (perform q.store step).after.work ≡ false
-  pub over : q.book.stage ≡ opened → l ≡ bound_at q → (perform q.store step).answer ≡ Refused WrongState
+  pub over : q.book.stage ≡ opened → l ≡ bound_at q → (perform q.store step).answer ≡ Err WrongState
   -- before that nothing holds a step up but log room
-  pub stalls : pass_runs q.store.work ≡ true → accepts q step ≡ false → (perform q.store step).answer ≡ Refused LogFull
+  pub stalls : pass_runs q.store.work ≡ true → accepts q step ≡ false → (perform q.store step).answer ≡ Err LogFull
 
 abbrev pub AlwaysTallied : Type 0
 AlwaysTallied = AlwaysKept ℕ tally Tallied

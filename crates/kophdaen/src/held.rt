@@ -1,5 +1,5 @@
 // The calls as C functions on a store that is known to be well formed: refusal 1 is not looked for. Each ensures what its namesake
-// without `held_` ensures.
+// without `held_` ensures; they are twins since C has a name for each.
 ghost use Rattle.std.specs.Prelude.{◌≡◌, true, length, eqb};
 ghost use Rattle.pages.specs.Geometry.{page_words, slot_words};
 ghost use Rattle.areas.specs.Areas.{areas};
@@ -20,6 +20,7 @@ use codes::code;
 
 // Begins transaction t as the client.
 #[unsafe(no_mangle)]
+#[tactic(auto, using(codes::specs::Codes::told))]
 pub extern "C" fn kophdaen_held_begin(
     stored: &[u32],
     copies: &[u32],
@@ -40,6 +41,7 @@ pub extern "C" fn kophdaen_held_begin(
 
 // Commits transaction t.
 #[unsafe(no_mangle)]
+#[tactic(auto, using(codes::specs::Codes::told))]
 pub extern "C" fn kophdaen_held_commit(
     stored: &[u32],
     copies: &[u32],
@@ -59,6 +61,7 @@ pub extern "C" fn kophdaen_held_commit(
 
 // Aborts transaction t.
 #[unsafe(no_mangle)]
+#[tactic(auto, using(codes::specs::Codes::told))]
 pub extern "C" fn kophdaen_held_abort(
     stored: &[u32],
     copies: &mut [u32],
@@ -78,6 +81,7 @@ pub extern "C" fn kophdaen_held_abort(
 
 // Gives client c the right r on page p: 0 nothing, 1 reading, 2 reading and writing.
 #[unsafe(no_mangle)]
+#[tactic(auto, using(codes::specs::Codes::told))]
 pub extern "C" fn kophdaen_held_grant(
     stored: &[u32],
     copies: &[u32],
@@ -99,6 +103,7 @@ pub extern "C" fn kophdaen_held_grant(
 
 // Locks page p for reading.
 #[unsafe(no_mangle)]
+#[tactic(auto, using(codes::specs::Codes::told))]
 pub extern "C" fn kophdaen_held_lock_read(
     stored: &[u32],
     copies: &[u32],
@@ -119,6 +124,7 @@ pub extern "C" fn kophdaen_held_lock_read(
 
 // Locks page p for writing.
 #[unsafe(no_mangle)]
+#[tactic(auto, using(codes::specs::Codes::told))]
 pub extern "C" fn kophdaen_held_lock_write(
     stored: &[u32],
     copies: &[u32],
@@ -161,6 +167,7 @@ pub extern "C" fn kophdaen_held_read(
 
 // Creates object o.
 #[unsafe(no_mangle)]
+#[tactic(auto, using(codes::specs::Codes::told))]
 pub extern "C" fn kophdaen_held_create(
     stored: &[u32],
     copies: &[u32],
@@ -181,6 +188,7 @@ pub extern "C" fn kophdaen_held_create(
 
 // Sets word f of object o to v.
 #[unsafe(no_mangle)]
+#[tactic(auto, using(codes::specs::Codes::told))]
 pub extern "C" fn kophdaen_held_set_word(
     stored: &[u32],
     copies: &[u32],
@@ -203,6 +211,7 @@ pub extern "C" fn kophdaen_held_set_word(
 
 // Flushes page p with its image.
 #[unsafe(no_mangle)]
+#[tactic(auto, using(codes::specs::Codes::told))]
 pub extern "C" fn kophdaen_held_flush(
     stored: &[u32],
     copies: &mut [u32],
@@ -224,6 +233,7 @@ pub extern "C" fn kophdaen_held_flush(
 
 // Makes one more record stable.
 #[unsafe(no_mangle)]
+#[tactic(auto, using(codes::specs::Codes::told))]
 pub extern "C" fn kophdaen_held_force(
     stored: &[u32],
     copies: &[u32],
@@ -242,6 +252,7 @@ pub extern "C" fn kophdaen_held_force(
 
 // Writes the copy of page p to the stored pages.
 #[unsafe(no_mangle)]
+#[tactic(auto, using(codes::specs::Codes::told))]
 pub extern "C" fn kophdaen_held_store_page(
     stored: &mut [u32],
     copies: &[u32],
@@ -261,6 +272,7 @@ pub extern "C" fn kophdaen_held_store_page(
 
 // Empties the log.
 #[unsafe(no_mangle)]
+#[tactic(auto, using(codes::specs::Codes::told))]
 pub extern "C" fn kophdaen_held_empty_log(
     stored: &[u32],
     copies: &[u32],
@@ -279,6 +291,7 @@ pub extern "C" fn kophdaen_held_empty_log(
 
 // Starts a pass.
 #[unsafe(no_mangle)]
+#[tactic(auto, using(codes::specs::Codes::told))]
 pub extern "C" fn kophdaen_held_start_pass(
     stored: &[u32],
     copies: &[u32],
@@ -297,6 +310,7 @@ pub extern "C" fn kophdaen_held_start_pass(
 
 // One step of a pass.
 #[unsafe(no_mangle)]
+#[tactic(auto, using(codes::specs::Codes::told))]
 pub extern "C" fn kophdaen_held_pass_step(
     stored: &[u32],
     copies: &mut [u32],
@@ -315,6 +329,7 @@ pub extern "C" fn kophdaen_held_pass_step(
 
 // One step of a reopening.
 #[unsafe(no_mangle)]
+#[tactic(auto, using(codes::specs::Codes::told))]
 pub extern "C" fn kophdaen_held_reopen_step(
     stored: &mut [u32],
     copies: &[u32],
@@ -333,6 +348,7 @@ pub extern "C" fn kophdaen_held_reopen_step(
 
 // Sets mark m of transaction t, or sets it again.
 #[unsafe(no_mangle)]
+#[tactic(auto, using(codes::specs::Codes::told))]
 pub extern "C" fn kophdaen_held_mark(
     stored: &[u32],
     copies: &[u32],
@@ -353,6 +369,7 @@ pub extern "C" fn kophdaen_held_mark(
 
 // Takes transaction t back to its mark m.
 #[unsafe(no_mangle)]
+#[tactic(auto, using(codes::specs::Codes::told))]
 pub extern "C" fn kophdaen_held_back(
     stored: &[u32],
     copies: &[u32],

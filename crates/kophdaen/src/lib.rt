@@ -1,4 +1,5 @@
-// The calls as C functions: each answers the answer's number times 2^32, plus its value.
+// The calls as C functions: each answers the answer's number times 2^32, plus its value. C lends six areas, const or not by call: no
+// struct of Rattle's references is both, so here and in the calls below they are six parameters.
 #![tactic(auto)]
 
 ghost use Rattle.std.specs.Prelude.{◌≡◌};
@@ -24,6 +25,7 @@ mod whole;
 
 // Makes the root and no other object.
 #[unsafe(no_mangle)]
+#[tactic(auto, using(codes::specs::Codes::told))]
 pub extern "C" fn kophdaen_format(
     stored: &mut [u32],
     copies: &mut [u32],
@@ -41,6 +43,7 @@ pub extern "C" fn kophdaen_format(
 
 // Begins transaction t as the client.
 #[unsafe(no_mangle)]
+#[tactic(auto, using(codes::specs::Codes::told))]
 pub extern "C" fn kophdaen_begin(
     stored: &[u32],
     copies: &[u32],
@@ -60,6 +63,7 @@ pub extern "C" fn kophdaen_begin(
 
 // Commits transaction t.
 #[unsafe(no_mangle)]
+#[tactic(auto, using(codes::specs::Codes::told))]
 pub extern "C" fn kophdaen_commit(
     stored: &[u32],
     copies: &[u32],
@@ -78,6 +82,7 @@ pub extern "C" fn kophdaen_commit(
 
 // Aborts transaction t.
 #[unsafe(no_mangle)]
+#[tactic(auto, using(codes::specs::Codes::told))]
 pub extern "C" fn kophdaen_abort(
     stored: &[u32],
     copies: &mut [u32],
@@ -96,6 +101,7 @@ pub extern "C" fn kophdaen_abort(
 
 // Gives client c the right r on page p: 0 nothing, 1 reading, 2 reading and writing.
 #[unsafe(no_mangle)]
+#[tactic(auto, using(codes::specs::Codes::told))]
 pub extern "C" fn kophdaen_grant(
     stored: &[u32],
     copies: &[u32],
@@ -116,6 +122,7 @@ pub extern "C" fn kophdaen_grant(
 
 // Locks page p for reading.
 #[unsafe(no_mangle)]
+#[tactic(auto, using(codes::specs::Codes::told))]
 pub extern "C" fn kophdaen_lock_read(
     stored: &[u32],
     copies: &[u32],
@@ -135,6 +142,7 @@ pub extern "C" fn kophdaen_lock_read(
 
 // Locks page p for writing.
 #[unsafe(no_mangle)]
+#[tactic(auto, using(codes::specs::Codes::told))]
 pub extern "C" fn kophdaen_lock_write(
     stored: &[u32],
     copies: &[u32],
@@ -175,6 +183,7 @@ pub extern "C" fn kophdaen_read(
 
 // Creates object o.
 #[unsafe(no_mangle)]
+#[tactic(auto, using(codes::specs::Codes::told))]
 pub extern "C" fn kophdaen_create(
     stored: &[u32],
     copies: &[u32],
@@ -194,6 +203,7 @@ pub extern "C" fn kophdaen_create(
 
 // Sets word f of object o to v.
 #[unsafe(no_mangle)]
+#[tactic(auto, using(codes::specs::Codes::told))]
 pub extern "C" fn kophdaen_set_word(
     stored: &[u32],
     copies: &[u32],
@@ -215,6 +225,7 @@ pub extern "C" fn kophdaen_set_word(
 
 // Flushes page p with its image.
 #[unsafe(no_mangle)]
+#[tactic(auto, using(codes::specs::Codes::told))]
 pub extern "C" fn kophdaen_flush(
     stored: &[u32],
     copies: &mut [u32],
@@ -235,6 +246,7 @@ pub extern "C" fn kophdaen_flush(
 
 // Makes one more record stable.
 #[unsafe(no_mangle)]
+#[tactic(auto, using(codes::specs::Codes::told))]
 pub extern "C" fn kophdaen_force(
     stored: &[u32],
     copies: &[u32],
@@ -252,6 +264,7 @@ pub extern "C" fn kophdaen_force(
 
 // Writes the copy of page p to the stored pages.
 #[unsafe(no_mangle)]
+#[tactic(auto, using(codes::specs::Codes::told))]
 pub extern "C" fn kophdaen_store_page(
     stored: &mut [u32],
     copies: &[u32],
@@ -270,6 +283,7 @@ pub extern "C" fn kophdaen_store_page(
 
 // Empties the log.
 #[unsafe(no_mangle)]
+#[tactic(auto, using(codes::specs::Codes::told))]
 pub extern "C" fn kophdaen_empty_log(
     stored: &[u32],
     copies: &[u32],
@@ -287,6 +301,7 @@ pub extern "C" fn kophdaen_empty_log(
 
 // Starts a pass.
 #[unsafe(no_mangle)]
+#[tactic(auto, using(codes::specs::Codes::told))]
 pub extern "C" fn kophdaen_start_pass(
     stored: &[u32],
     copies: &[u32],
@@ -304,6 +319,7 @@ pub extern "C" fn kophdaen_start_pass(
 
 // One step of a pass.
 #[unsafe(no_mangle)]
+#[tactic(auto, using(codes::specs::Codes::told))]
 pub extern "C" fn kophdaen_pass_step(
     stored: &[u32],
     copies: &mut [u32],
@@ -321,6 +337,7 @@ pub extern "C" fn kophdaen_pass_step(
 
 // Reopens the store after a power cut.
 #[unsafe(no_mangle)]
+#[tactic(auto, using(codes::specs::Codes::told))]
 pub extern "C" fn kophdaen_reopen(
     stored: &[u32],
     copies: &mut [u32],
@@ -338,6 +355,7 @@ pub extern "C" fn kophdaen_reopen(
 
 // One step of a reopening.
 #[unsafe(no_mangle)]
+#[tactic(auto, using(codes::specs::Codes::told))]
 pub extern "C" fn kophdaen_reopen_step(
     stored: &mut [u32],
     copies: &[u32],
@@ -355,6 +373,7 @@ pub extern "C" fn kophdaen_reopen_step(
 
 // Sets mark m of transaction t, or sets it again.
 #[unsafe(no_mangle)]
+#[tactic(auto, using(codes::specs::Codes::told))]
 pub extern "C" fn kophdaen_mark(
     stored: &[u32],
     copies: &[u32],
@@ -374,6 +393,7 @@ pub extern "C" fn kophdaen_mark(
 
 // Takes transaction t back to its mark m.
 #[unsafe(no_mangle)]
+#[tactic(auto, using(codes::specs::Codes::told))]
 pub extern "C" fn kophdaen_back(
     stored: &[u32],
     copies: &[u32],

@@ -9,6 +9,9 @@ ghost use Rattle.calls.specs.Locks.{call_lock_read, call_lock_write};
 use areas::{Answer, Check, Refusal};
 use pages::PAGE_WORDS;
 
+// The calls of the two locks stay apart: each has its name in C and its definition, call_lock_read and call_lock_write, and what they
+// share is one function already, lock_check.
+
 // Locks page p for reading, for transaction t. A store that is known to be well formed.
 pub fn held_lock_read(
     stored: &[u32],
@@ -24,20 +27,16 @@ pub fn held_lock_read(
     ensures { out result stored.now copies.now received.now log.now counts.now work.new ≡ call_lock_read (areas stored.now copies.now received.now log.now counts.now work.old) t p }
 {
     if !entry::is_open(work) {
-        return Answer::Refused(Refusal::NotOpen);
+        return Err(Refusal::NotOpen);
     }
     let n = stored.len() / PAGE_WORDS;
-    let k = locks::lock_check(work, n, t, p, false);
-    match k {
-        Check::Refuse(x) => Answer::Refused(x),
-        Check::Accept => {
-            locks::let_read(work, n, t, p as usize);
-            Answer::Done(0)
-        }
-    }
+    locks::lock_check(work, n, t, p, false)?;
+    locks::let_read(work, n, t, p as usize);
+    Ok(0)
 }
 
 // Locks page p for reading, for transaction t.
+#[tactic(auto, using(areas::specs::Entry::called_malformed), unfolding(calls::specs::Locks::call_lock_read))]
 pub fn lock_read(
     stored: &[u32],
     copies: &[u32],
@@ -51,7 +50,7 @@ pub fn lock_read(
     ensures { out result stored.now copies.now received.now log.now counts.now work.new ≡ call_lock_read (areas stored.now copies.now received.now log.now counts.now work.old) t p }
 {
     if !entry::well_formed(stored, copies, received, log, counts, work, true) {
-        return Answer::Refused(Refusal::Malformed);
+        return Err(Refusal::Malformed);
     }
     held_lock_read(stored, copies, received, log, counts, work, t, p)
 }
@@ -71,20 +70,16 @@ pub fn held_lock_write(
     ensures { out result stored.now copies.now received.now log.now counts.now work.new ≡ call_lock_write (areas stored.now copies.now received.now log.now counts.now work.old) t p }
 {
     if !entry::is_open(work) {
-        return Answer::Refused(Refusal::NotOpen);
+        return Err(Refusal::NotOpen);
     }
     let n = stored.len() / PAGE_WORDS;
-    let k = locks::lock_check(work, n, t, p, true);
-    match k {
-        Check::Refuse(x) => Answer::Refused(x),
-        Check::Accept => {
-            locks::let_write(work, n, t, p as usize);
-            Answer::Done(0)
-        }
-    }
+    locks::lock_check(work, n, t, p, true)?;
+    locks::let_write(work, n, t, p as usize);
+    Ok(0)
 }
 
 // Locks page p for writing, for transaction t.
+#[tactic(auto, using(areas::specs::Entry::called_malformed), unfolding(calls::specs::Locks::call_lock_write))]
 pub fn lock_write(
     stored: &[u32],
     copies: &[u32],
@@ -98,7 +93,7 @@ pub fn lock_write(
     ensures { out result stored.now copies.now received.now log.now counts.now work.new ≡ call_lock_write (areas stored.now copies.now received.now log.now counts.now work.old) t p }
 {
     if !entry::well_formed(stored, copies, received, log, counts, work, true) {
-        return Answer::Refused(Refusal::Malformed);
+        return Err(Refusal::Malformed);
     }
     held_lock_write(stored, copies, received, log, counts, work, t, p)
 }

@@ -1,6 +1,6 @@
 -- Refusals 3, 4, 19 and 6 of a lock for reading and of one for writing, as one check of the working tables. n is the number of pages.
 -- Assumes nothing.
-use Rattle.std.specs.Prelude.{ℕ, ◌<◌, ◌≡◌, refl, Bool, true, false, ◌&&◌, ◌||◌, List, [], ◌∷◌, eqb, ltb}
+use Rattle.std.specs.Prelude.{ℕ, ◌<◌, ◌≡◌, refl, Bool, true, false, ◌&&◌, ◌||◌, List, [], ◌∷◌, eqb, ltb, Ok, Err, Option, None, Some}
 use Rattle.std.proofs.Math.Path.{sym, ap}
 use Rattle.std.proofs.Common.{◌∙◌, arith}
 use Rattle.std.proofs.Math.Bool.{not}
@@ -11,17 +11,13 @@ use Rattle.words.specs.Bits.{bit, with_bit, without_bit, with_same, with_other}
 use Rattle.words.specs.Lowest.{lowest_capped, lowest_same, trailing_lowest}
 use Rattle.page_laws.specs.BitLaws.{or_others}
 use Rattle.areas.specs.declared.Refusal.TheVariants.{OutOfRange, WrongState, Held, RightMissing}
-use Rattle.areas.specs.declared.Check.{Check}
-use Rattle.areas.specs.declared.Check.TheVariants.{Accept, Refuse}
-use Rattle.areas.specs.Answers.{Test, need, verdict, passed, all_passed, need_holds, need_fails}
+use Rattle.areas.specs.Answers.{Test, need, verdict, passed, all_passed, need_holds, need_fails, Check}
 use Rattle.records.specs.Records.{txn_count}
 use Rattle.areas.specs.Areas.{Areas}
 use Rattle.areas.specs.Layout.{readers_at, writers_at, client_count, reading, writing}
 use Rattle.areas.specs.Tables.{at, gain, lose, is_txn, is_active, can_write, can_read}
 use Rattle.calls.specs.Rights.{client_of, may_lock}
 use Rattle.calls.specs.Locks.{no_other, holder_of, lock_read_tests, read_locked, lock_write_tests, write_locked}
-use Rattle.locks.specs.declared.Way.{Way}
-use Rattle.locks.specs.declared.Way.TheVariants.{Clear, Barred}
 use Rattle.acceptance.specs.Entered.{Open}
 use Rattle.acceptance.specs.Working.{client_in}
 use Rattle.store_ops.specs.Tables.{page_range}
@@ -30,12 +26,13 @@ use Rattle.store_ops.specs.Tables.{page_range}
 abbrev pub is_free : List ℕ → ℕ → ℕ → ℕ → Bool → Bool
 is_free w n t p write = no_other w (writers_at n p) t && (not write || no_other w (readers_at n p) t)
 
-unfoldable pub way_to : List ℕ → ℕ → ℕ → ℕ → Bool → Way
-way_to w n t p write = let h = Barred (holder_of w n t p) in if (is_free w n t p write) Clear h
+-- who bars the way, the lowest of them
+unfoldable pub way_to : List ℕ → ℕ → ℕ → ℕ → Bool → Option ℕ
+way_to w n t p write = let h = Some (holder_of w n t p) in if (is_free w n t p write) None h
 
-abbrev pub answer_to : Way → Check
-answer_to Clear = Accept
-answer_to (Barred h) = Refuse (Held h)
+abbrev pub answer_to : Option ℕ → Check
+answer_to None = Ok tt
+answer_to (Some h) = Err (Held h)
 
 -- the right that a lock needs
 abbrev pub right_for : Bool → ℕ
@@ -65,22 +62,22 @@ module _ (w : List ℕ) (n t p : ℕ) (write : Bool) {i j r v : ℕ} (hi : i ≡
   writers : v ≡ without_bit (at w (writers_at n p)) t
   writers = hv ∙ rw hj
 
-  pub way_clear : eqb v 0 && (not write || eqb r 0) ≡ true → Clear ≡ way_to w n t p write
+  pub way_clear : eqb v 0 && (not write || eqb r 0) ≡ true → None ≡ way_to w n t p write
   unfolding way_to
   way_clear h = rw (← readers, ← writers, h)
 
   other : (u : ℕ) → bit (bit_or r v) u ≡ (not (eqb u t) && can_read w n u p)
   other u = rw (readers, writers) (or_others (at w (readers_at n p)) (at w (writers_at n p)) t u)
 
-  pub way_barred : {h : ℕ} → eqb v 0 && (not write || eqb r 0) ≡ false → h ≡ lowest (bit (bit_or r v)) txn_count → Barred h ≡ way_to w n t p write
+  pub way_barred : {h : ℕ} → eqb v 0 && (not write || eqb r 0) ≡ false → h ≡ lowest (bit (bit_or r v)) txn_count → Some h ≡ way_to w n t p write
   unfolding way_to holder_of
-  way_barred h e = rw (← readers, ← writers, h) (ap Barred (e ∙ lowest_same (bit (bit_or r v)) (λ u. not (eqb u t) && can_read w n u p) txn_count (λ u l. other u)))
+  way_barred h e = rw (← readers, ← writers, h) (ap Some (e ∙ lowest_same (bit (bit_or r v)) (λ u. not (eqb u t) && can_read w n u p) txn_count (λ u l. other u)))
 
 -- a bit above the transactions ends the search for the lowest
 pub lowest_txn : (m x : ℕ) → x ≡ with_bit m txn_count → count_trailing_zeros 32 x ≡ lowest (bit m) txn_count
 lowest_txn m x e = trailing_lowest 32 x ∙ rw e (lowest_capped (bit m) (bit (with_bit m txn_count)) txn_count 32 (omega arith) (λ i l. with_other m txn_count i (λ z. omega arith)) (with_same m txn_count))
 
-answered : (b : Bool) (h : ℕ) → answer_to (if b Clear (Barred h)) ≡ verdict (need 6 (Held h) b ∷ [])
+answered : (b : Bool) (h : ℕ) → answer_to (if b None (Some h)) ≡ verdict (need 6 (Held h) b ∷ [])
 answered true h = all_passed ∙ need_holds _ _ _ _ refl
 answered false h = need_fails _ _ _ _ refl
 
@@ -89,23 +86,23 @@ pub right_asked : (w : List ℕ) (n t p : ℕ) (write : Bool) {r : ℕ} {b : Boo
 right_asked w n t p write e d = sym (d ∙ ap (may_lock w n t p) e)
 
 module _ (w : List ℕ) (n t p : ℕ) (write : Bool) where
-  pub lock_outside : is_txn t && ltb p n ≡ false → Refuse OutOfRange ≡ verdict (lock_tests w n t p write)
+  pub lock_outside : is_txn t && ltb p n ≡ false → Err OutOfRange ≡ verdict (lock_tests w n t p write)
   unfolding lock_tests
   lock_outside h = need_fails _ _ _ _ h
 
-  pub lock_inactive : is_txn t && ltb p n ≡ true → is_active w t ≡ false → Refuse WrongState ≡ verdict (lock_tests w n t p write)
+  pub lock_inactive : is_txn t && ltb p n ≡ true → is_active w t ≡ false → Err WrongState ≡ verdict (lock_tests w n t p write)
   unfolding lock_tests
   lock_inactive h a = need_fails _ _ _ _ a ∙ need_holds _ _ _ _ h
 
-  pub lock_unright : is_txn t && ltb p n ≡ true → is_active w t ≡ true → may_lock w n t p (right_for write) ≡ false → Refuse RightMissing ≡ verdict (lock_tests w n t p write)
+  pub lock_unright : is_txn t && ltb p n ≡ true → is_active w t ≡ true → may_lock w n t p (right_for write) ≡ false → Err RightMissing ≡ verdict (lock_tests w n t p write)
   unfolding lock_tests
   lock_unright h a r = need_fails _ _ _ _ r ∙ need_holds _ _ _ _ a ∙ need_holds _ _ _ _ h
 
-  pub lock_answer : is_txn t && ltb p n ≡ true → is_active w t ≡ true → may_lock w n t p (right_for write) ≡ true → {y : Way} → y ≡ way_to w n t p write → answer_to y ≡ verdict (lock_tests w n t p write)
+  pub lock_answer : is_txn t && ltb p n ≡ true → is_active w t ≡ true → may_lock w n t p (right_for write) ≡ true → {y : Option ℕ} → y ≡ way_to w n t p write → answer_to y ≡ verdict (lock_tests w n t p write)
   unfolding lock_tests way_to
   lock_answer h a r e = ap answer_to e ∙ answered (is_free w n t p write) (holder_of w n t p) ∙ need_holds _ _ _ _ r ∙ need_holds _ _ _ _ a ∙ need_holds _ _ _ _ h
 
-  pub lock_passed : verdict (lock_tests w n t p write) ≡ Accept → (t < txn_count) × (p < n)
+  pub lock_passed : verdict (lock_tests w n t p write) ≡ Ok tt → (t < txn_count) × (p < n)
   unfolding lock_tests
   lock_passed h = page_range n t p (passed _ 0 h)
 

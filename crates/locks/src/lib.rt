@@ -15,13 +15,6 @@ use areas::{Check, Refusal, layout};
 use bit_ops::bits;
 use records::TXNS;
 
-// What other transactions' locks leave of the way to a lock: barred, with the lowest of them.
-#[derive(Clone, Copy)]
-pub enum Way {
-    Clear,
-    Barred(u32),
-}
-
 // The mask at word i without t.
 fn others(w: &[u32], i: usize, t: u32) -> u32
     requires { (i < length w.now) × (t < 32) }
@@ -37,17 +30,17 @@ fn lowest_of(m: u32) -> u32
     u32::trailing_zeros(bits::with_bit(m, TXNS as usize))
 }
 
-// The way to t's lock on page p of n: no other may write it, nor read it where t wants to write.
-fn way_to(w: &[u32], n: usize, t: u32, p: usize, writing: bool) -> Way
+// Who bars the way to t's lock on page p of n, the lowest of them: no other may write it, nor read it where t wants to write.
+fn way_to(w: &[u32], n: usize, t: u32, p: usize, writing: bool) -> Option<u32>
     requires { HasTables w.now n × (p < n) × (t < 32) }
     ensures { result ≡ way_to w.now n t p writing }
 {
     let readers = others(w, layout::readers_at(n, p), t);
     let writers = others(w, layout::writers_at(n, p), t);
     if (writers == 0) & (!writing | (readers == 0)) {
-        Way::Clear
+        None
     } else {
-        Way::Barred(lowest_of(readers | writers))
+        Some(lowest_of(readers | writers))
     }
 }
 
@@ -69,18 +62,17 @@ pub fn lock_check(w: &[u32], n: usize, t: u32, p: u32, writing: bool) -> Check
 {
     let page = p as usize;
     if !((t < TXNS) & (page < n)) {
-        return Check::Refuse(Refusal::OutOfRange);
+        return Err(Refusal::OutOfRange);
     }
     if !store_ops::has(w, layout::ACTIVE_AT, t) {
-        return Check::Refuse(Refusal::WrongState);
+        return Err(Refusal::WrongState);
     }
     if !rights::may_lock(w, n, t, page, right_for(writing)) {
-        return Check::Refuse(Refusal::RightMissing);
+        return Err(Refusal::RightMissing);
     }
-    let way = way_to(w, n, t, page, writing);
-    match way {
-        Way::Clear => Check::Accept,
-        Way::Barred(h) => Check::Refuse(Refusal::Held(h)),
+    match way_to(w, n, t, page, writing) {
+        None => Ok(()),
+        Some(h) => Err(Refusal::Held(h)),
     }
 }
 

@@ -1,5 +1,5 @@
 -- The log and its counts, as a call finds them and as a record leaves them. Assumes nothing.
-use Rattle.std.specs.Prelude.{ℕ, ◌+◌, ◌*◌, ◌<◌, ◌≤◌, ◌≡◌, refl, Bool, true, List, [], length, get_or, set, leb}
+use Rattle.std.specs.Prelude.{ℕ, ◌+◌, ◌*◌, ◌<◌, ◌≤◌, ◌≡◌, refl, Bool, true, List, [], length, get_or, set, leb, Ok}
 use Rattle.std.proofs.Common.{ap, ◌∙◌, get_or-set_same, arith}
 use Rattle.records.specs.declared.Record.{Record}
 use Rattle.pages.specs.Geometry.{page_words, max_pages, map_top, page_at}
@@ -10,7 +10,6 @@ use Rattle.records.specs.Changes.{noted, changes_left, reserved}
 use Rattle.record_laws.specs.RecordLaws.{left_le, records_sound_wider}
 use Rattle.record_laws.specs.EffectLaws.{sound_for}
 use Rattle.record_ops.specs.InRange.{InRange, sound_in_range, sweep_in_range}
-use Rattle.areas.specs.declared.Answer.TheVariants.{Done}
 use Rattle.areas.specs.Areas.{Areas, Out, count_words, areas, out, done, received_count, with_work, appended}
 use Rattle.areas.specs.Entry.{records}
 use Rattle.areas.specs.Layout.{HasUndoing, active_at, undoing_from, undoing_at}
@@ -100,6 +99,6 @@ counted a = done (received_count a) a
 -- .. and appends one record, e being what `append` tells, and then changes the working tables
 pub appended_out : (s c a g k w : List ℕ) (r : Record) (x : ℕ) (a' g' k' w' v : List ℕ) → length k ≡ count_words →
     (x ≡ get_or k 0 0 + 1) × (a' ≡ effect a r) × (g' ≡ recorded g (get_or k 0 0) r) × (k' ≡ set k 0 (get_or k 0 0 + 1)) → w' ≡ v →
-    out (Done x) s c a' g' k' w' ≡ counted (with_work (appended (areas s c a g k w) r) v)
+    out (Ok x) s c a' g' k' w' ≡ counted (with_work (appended (areas s c a g k w) r) v)
 unfolding appended
 appended_out s c a g k w r x a' g' k' w' v l e h = rw (get_or-set_same k 0 (get_or k 0 0 + 1) 0 (omega arith), e.0, e.1, e.2, e.3, h)

@@ -32,22 +32,12 @@ taken_back m a r = if (bit m r.txn) (undone a r) a
 pub redone_turn : (a g : List ℕ) (i : ℕ) (x : List ℕ) (r : Record) → x ≡ redone a g i → r ≡ record_at g i → effect x r ≡ redone a g (i + 1)
 redone_turn a g i x r e f = ap (λ (y : List ℕ). effect y r) e ∙ ap (effect (redone a g i)) f ∙ redone_next a g i
 
-undone_down : (g : List ℕ) (m i : ℕ) (a : List ℕ) {m' : ℕ} {x : List ℕ} (r : Record) → 0 < i → r ≡ record_at g (i - 1)
+-- record i - 1 is undone, and those before it are left
+pub undone_down : (g : List ℕ) (m i : ℕ) (a : List ℕ) {m' : ℕ} {x : List ℕ} (r : Record) → 0 < i → r ≡ record_at g (i - 1)
     → m' ≡ leaving m r → x ≡ taken_back m a r → undone_in g m' (i - 1) x ≡ undone_in g m i a
 unfolding undone_in
 undone_down g m zero a r l er em ex = absurd (omega arith)
 undone_down g m (suc j) a r l er em ex = let z : suc j - 1 ≡ j = omega arith in rw (em, ex, er, z)
-
--- record c - back, where back counts from 1
-pub undone_back : (g : List ℕ) (m c back : ℕ) (a : List ℕ) {m' : ℕ} {x : List ℕ} (r : Record) → 1 ≤ back → back ≤ c → r ≡ record_at g (c - back)
-    → m' ≡ leaving m r → x ≡ taken_back m a r → undone_in g m' (c + 1 - (back + 1)) x ≡ undone_in g m (c + 1 - back) a
-undone_back g m c back a r l u er em ex =
-    let z : c + 1 - (back + 1) ≡ c + 1 - back - 1 = omega arith in
-    let y : c - back ≡ c + 1 - back - 1 = omega arith in
-    rw z (undone_down g m (c + 1 - back) a r (omega arith) (rw y at er) em ex)
-
-pub undone_first : (g : List ℕ) (m c : ℕ) (a : List ℕ) → undone_in g m (c + 1 - 1) a ≡ undone_in g m c a
-undone_first g m c a = let z : c + 1 - 1 ≡ c = omega arith in rw z
 
 pub undone_end : (g : List ℕ) (m i : ℕ) (a : List ℕ) → i ≤ 0 → a ≡ undone_in g m i a
 unfolding undone_in

@@ -15,6 +15,7 @@ use bit_ops::bits;
 use records::Record;
 
 // The first c records take effect, in order.
+#[tactic(auto, using(crate::specs::Rebuilding::redone_turn, crate::specs::Rebuilding::sound_here, record_ops::specs::InRange::sound_in_range), unfolding(records::specs::Recovery::redone))]
 fn redo(a: &mut [u32], log: &[u32], c: usize)
     requires { (record_words * c ≤ length log.now) × (records_sound (length a.old / page_words) log.now c ≡ true) }
     ensures { a.new ≡ redone a.old log.now c }
@@ -29,10 +30,9 @@ fn take_back_of(a: &mut [u32], m: u32, r: Record)
     requires { record_sound (length a.old / page_words) r ≡ true }
     ensures { a.new ≡ taken_back m a.old r }
 {
-    if !words::has_bit(m, r.txn as usize) {
-        return;
+    if words::has_bit(m, r.txn as usize) {
+        record_ops::take_back(a, r);
     }
-    record_ops::take_back(a, r);
 }
 
 // The transactions of m without the one that a record begins: what is undone of it ends there.
@@ -47,16 +47,17 @@ fn leave(m: u32, r: Record) -> u32
 }
 
 // The transactions of m are undone over the first c records, newest first.
+#[tactic(auto, using(crate::specs::Rebuilding::undone_down, crate::specs::Rebuilding::undone_end, crate::specs::Rebuilding::undone_none, crate::specs::Rebuilding::sound_here))]
 fn undo(a: &mut [u32], log: &[u32], c: usize, m: u32)
     requires { (record_words * c ≤ length log.now) × (records_sound (length a.old / page_words) log.now c ≡ true) }
     ensures { a.new ≡ undone_in log.now m c a.old }
 {
     let mut left = m;
-    for back in 1..c + 1 {
+    for i in (0..c).rev() {
         if left == 0 {
             return;
         }
-        let r = log_reader::record_at(log, c - back);
+        let r = log_reader::record_at(log, i);
         take_back_of(a, left, r);
         left = leave(left, r);
     }

@@ -1,7 +1,7 @@
 -- Down the log for the changes of a transaction that are left: what the walk does at each record, and what it leaves to do. An undoing
 -- record is met before the change that it undoes, so the walk keeps how many such changes are still to come. Assumes nothing.
 use Prim.Native.Nat.{ℕ, zero, suc, ◌+◌, ◌-◌, ◌<◌, ◌≤◌}
-use Rattle.std.specs.Prelude.{◌≡◌, refl, Bool, not, ◌&&◌, ◌||◌, List, [], ◌∷◌, length, drop, eqb}
+use Rattle.std.specs.Prelude.{◌≡◌, refl, Bool, not, ◌&&◌, ◌||◌, List, [], ◌∷◌, length, drop, eqb, Option, Some, None}
 use Rattle.std.proofs.Common.{sym, ◌∙◌, add-one}
 use Rattle.std.proofs.Math.Bool.{true, false}
 use Rattle.std.proofs.Math.Seq.{drop-nil}
@@ -12,17 +12,16 @@ use Rattle.records.specs.declared.Record.{Record}
 use Rattle.records.specs.Records.{record_at, is_begin, is_change, changes_object}
 use Rattle.records.specs.Changes.{changes_in, changes_left}
 use Rattle.record_laws.specs.RecordLaws.{begun_in, changes_next, changes_next_law}
-use Rattle.log_turns.specs.declared.Turn.{Turn}
-use Rattle.log_turns.specs.declared.Turn.TheVariants.{Left, Past}
 
--- the turn at record r, for t: b, going back appended it; p changes below were undone above
-unfoldable pub turn_at : Bool → Record → ℕ → ℕ → Turn
-turn_at b r t p = if (b && changes_object r t) (Past (p + 1)) (if (is_change r t) (if (eqb p 0) Left (Past (p - 1))) (Past p))
+-- the turn at record r, for t: None where it is a change that is left, or else how many changes further down are undone above. b: going
+-- back appended it; p: how many were undone before it
+unfoldable pub turn_at : Bool → Record → ℕ → ℕ → Option ℕ
+turn_at b r t p = if (b && changes_object r t) (Some (p + 1)) (if (is_change r t) (if (eqb p 0) None (Some (p - 1))) (Some p))
 
 -- the changes left from record i down, by the turn at it and by those below
-abbrev pub turned : Turn → ℕ → List ℕ → List ℕ
-turned Left i l = i ∷ l
-turned (Past q) i l = drop q l
+abbrev pub turned : Option ℕ → ℕ → List ℕ → List ℕ
+turned None i l = i ∷ l
+turned (Some q) i l = drop q l
 
 -- the changes of t among the first i records that are left once p are undone, where t began among the first c
 unfoldable pub below : (ℕ → Bool) → List ℕ → ℕ → ℕ → ℕ → ℕ → List ℕ
@@ -34,7 +33,7 @@ drop_one : (p : ℕ) (l : List ℕ) → drop p (drop 1 l) ≡ drop (p + 1) l
 drop_one p [] = drop-nil p ∙ sym (drop-nil (p + 1))
 drop_one p (x ∷ l) = rw add-one
 
-drop_change : (p i : ℕ) (l : List ℕ) → drop p (i ∷ l) ≡ turned (if (eqb p 0) Left (Past (p - 1))) i l
+drop_change : (p i : ℕ) (l : List ℕ) → drop p (i ∷ l) ≡ turned (if (eqb p 0) None (Some (p - 1))) i l
 drop_change zero i l = refl
 drop_change (suc p) i l = let e : suc p - 1 ≡ p = omega arith in rw (ne_eqb (suc p) 0 (λ z. omega arith), e)
 
@@ -59,27 +58,27 @@ module _ (b : Bool) (r : Record) (t p : ℕ) where
       (λ e. rw (n, e) (drop_one p l))
       (λ e. by_bool (is_change r t) (λ f. rw (n, e, f) (drop_change p i l)) (λ f. rw (n, e, f)))
 
-  pub turn_noted : b && changes_object r t ≡ true → Past (p + 1) ≡ turn_at b r t p
+  pub turn_noted : b && changes_object r t ≡ true → Some (p + 1) ≡ turn_at b r t p
   unfolding turn_at
   turn_noted e = rw e
 
   module _ (e : b && changes_object r t ≡ false) where
-    pub turn_other : is_change r t ≡ false → Past p ≡ turn_at b r t p
+    pub turn_other : is_change r t ≡ false → Some p ≡ turn_at b r t p
     unfolding turn_at
     turn_other f = rw (e, f)
 
-    pub turn_left : is_change r t ≡ true → p ≡ 0 → Left ≡ turn_at b r t p
+    pub turn_left : is_change r t ≡ true → p ≡ 0 → None ≡ turn_at b r t p
     unfolding turn_at
     turn_left f z = rw (e, f, z)
 
-    pub turn_undone : is_change r t ≡ true → (p ≡ 0 → ⊥) → Past (p - 1) ≡ turn_at b r t p
+    pub turn_undone : is_change r t ≡ true → (p ≡ 0 → ⊥) → Some (p - 1) ≡ turn_at b r t p
     unfolding turn_at
     turn_undone f z = rw (e, f, ne_eqb p 0 z)
 
   -- what a turn tells of its record
-  abbrev Tells : Turn → Type 0
-  Tells Left = (is_change r t ≡ true) × (p ≡ 0)
-  Tells (Past q) = q ≤ p + 1
+  abbrev Tells : Option ℕ → Type 0
+  Tells None = (is_change r t ≡ true) × (p ≡ 0)
+  Tells (Some q) = q ≤ p + 1
 
   tells : Tells (turn_at b r t p)
   unfolding turn_at
@@ -89,10 +88,10 @@ module _ (b : Bool) (r : Record) (t p : ℕ) where
       (λ f. by_bool (eqb p 0) (λ z. rw (e, f, z) (f, eqb-true p 0 z)) (λ z. rw (e, f, z) (omega arith)))
       (λ f. rw (e, f) (omega arith)))
 
-  pub left_tells : turn_at b r t p ≡ Left → (is_change r t ≡ true) × (p ≡ 0)
+  pub left_tells : turn_at b r t p ≡ None → (is_change r t ≡ true) × (p ≡ 0)
   left_tells e = rw e at tells
 
-  pub past_tells : (q : ℕ) → turn_at b r t p ≡ Past q → q ≤ p + 1
+  pub past_tells : (q : ℕ) → turn_at b r t p ≡ Some q → q ≤ p + 1
   past_tells q e = rw e at tells
 
 -- all changes that are left
@@ -122,10 +121,10 @@ module _ (u : ℕ → Bool) (g : List ℕ) (c t : ℕ) where
         (λ n. absurd (none_there true p (rw (begun, ← changes_next_law u g t i, n) at some)))
         (λ n. rw (← changes_next_law u g t i) (turn_next (u i) (record_at g i) t p i (changes_in u g t i) n))
 
-    pub below_left : turn_at (u i) (record_at g i) t p ≡ Left → below u g c t (i + 1) p ≡ i ∷ below u g c t i p
+    pub below_left : turn_at (u i) (record_at g i) t p ≡ None → below u g c t (i + 1) p ≡ i ∷ below u g c t i p
     unfolding below
     below_left e = let z = (left_tells (u i) (record_at g i) t p e).1 in rw (begun, go_on, e, z)
 
-    pub below_past : (q : ℕ) → turn_at (u i) (record_at g i) t p ≡ Past q → below u g c t (i + 1) p ≡ below u g c t i q
+    pub below_past : (q : ℕ) → turn_at (u i) (record_at g i) t p ≡ Some q → below u g c t (i + 1) p ≡ below u g c t i q
     unfolding below
     below_past q e = rw (begun, go_on, e)

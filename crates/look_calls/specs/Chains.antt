@@ -1,5 +1,5 @@
 -- A chain: what its tests give the code, its outcome and its buffer. Assumes nothing.
-use Rattle.std.specs.Prelude.{ℕ, ◌*◌, ◌≤◌, ◌≡◌, refl, true, false, List, [], length, eqb}
+use Rattle.std.specs.Prelude.{ℕ, ◌*◌, ◌≤◌, ◌≡◌, refl, true, false, List, [], length, eqb, Ok, Err}
 use Rattle.std.proofs.Math.Path.{ap}
 use Rattle.std.proofs.Common.{◌∙◌}
 use borrow.Author.Tests.{eqb-true}
@@ -8,8 +8,6 @@ use Rattle.pages.specs.Soundness.{area_sound}
 use Rattle.reach.specs.Search.{chain_in}
 use Rattle.areas.specs.declared.Refusal.{Refusal}
 use Rattle.areas.specs.declared.Refusal.TheVariants.{Malformed, NotOpen}
-use Rattle.areas.specs.declared.Answer.TheVariants.{Done, Refused}
-use Rattle.areas.specs.declared.Check.TheVariants.{Accept, Refuse}
 use Rattle.areas.specs.Answers.{verdict, passed}
 use Rattle.areas.specs.Areas.{Areas, Out, areas, out}
 use Rattle.areas.specs.Entry.{pages, well_formed, is_ready}
@@ -30,7 +28,7 @@ chain_looks s c r g k w n o = refl
 
 module _ (s c r g k w b : List ℕ) (o : ℕ) where
   -- what the tests give the code
-  pub chain_ready : (n : ℕ) → Open (areas s c r g k w) n → eqb (length b) chain_words ≡ true → verdict (chain_tests (areas [] c [] [] [] []) n o) ≡ Accept →
+  pub chain_ready : (n : ℕ) → Open (areas s c r g k w) n → eqb (length b) chain_words ≡ true → verdict (chain_tests (areas [] c [] [] [] []) n o) ≡ Ok tt →
       (length c ≡ page_words * n) × (1 ≤ n) × (n ≤ max_pages) × (area_sound c n ≡ true) × Object n o × (length b ≡ chain_words)
   unfolding chain_tests
   chain_ready n h e p =
@@ -42,23 +40,23 @@ module _ (s c r g k w b : List ℕ) (o : ℕ) where
   unfolding call_chain chain_after
   gives x l h = h
 
-  pub chain_malformed : well_formed (eqb (length b) chain_words) (areas s c r g k w) ≡ false → ChainGives (out (Refused Malformed) s c r g k w) b (areas s c r g k w) b o
+  pub chain_malformed : well_formed (eqb (length b) chain_words) (areas s c r g k w) ≡ false → ChainGives (out (Err Malformed) s c r g k w) b (areas s c r g k w) b o
   unfolding chain_look
   chain_malformed h = gives _ _ (gives_malformed _ _ _ _ h)
 
   module _ (h : well_formed (eqb (length b) chain_words) (areas s c r g k w) ≡ true) where
-    pub chain_closed : is_ready true (areas s c r g k w) ≡ false → ChainGives (out (Refused NotOpen) s c r g k w) b (areas s c r g k w) b o
+    pub chain_closed : is_ready true (areas s c r g k w) ≡ false → ChainGives (out (Err NotOpen) s c r g k w) b (areas s c r g k w) b o
     unfolding chain_look
     chain_closed e = gives _ _ (gives_closed _ _ _ _ h e)
 
     module _ (e : is_ready true (areas s c r g k w) ≡ true) where
-      pub chain_refused : (x : Refusal) → Refuse x ≡ verdict (chain_tests (areas [] c [] [] [] []) (pages (areas s c r g k w)) o) →
-          ChainGives (out (Refused x) s c r g k w) b (areas s c r g k w) b o
+      pub chain_refused : (x : Refusal) → Err x ≡ verdict (chain_tests (areas [] c [] [] [] []) (pages (areas s c r g k w)) o) →
+          ChainGives (out (Err x) s c r g k w) b (areas s c r g k w) b o
       unfolding chain_look
       chain_refused x d = gives _ _ (gives_refused _ _ _ _ h e x (d ∙ ap verdict (chain_looks s c r g k w _ o)))
 
-      pub chain_passed : (v : ℕ) (b' : List ℕ) → Accept ≡ verdict (chain_tests (areas [] c [] [] [] []) (pages (areas s c r g k w)) o) →
+      pub chain_passed : (v : ℕ) (b' : List ℕ) → Ok tt ≡ verdict (chain_tests (areas [] c [] [] [] []) (pages (areas s c r g k w)) o) →
           (v ≡ length (chain_in c (pages (areas s c r g k w)) o)) × (b' ≡ shown (chain_in c (pages (areas s c r g k w)) o)) →
-          ChainGives (out (Done v) s c r g k w) b' (areas s c r g k w) b o
+          ChainGives (out (Ok v) s c r g k w) b' (areas s c r g k w) b o
       unfolding chain_look
       chain_passed v b' d z = gives _ _ (gives_passed _ _ _ _ h e v b' (d ∙ ap verdict (chain_looks s c r g k w _ o)) z.0 z.1)

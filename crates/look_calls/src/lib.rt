@@ -27,14 +27,11 @@ pub fn held_chain(
     ensures buffer_after { buffer.new ≡ chain_after (areas stored.now copies.now received.now log.now counts.now work.now) buffer.old o }
 {
     if !entry::is_open(work) {
-        return Answer::Refused(Refusal::NotOpen);
+        return Err(Refusal::NotOpen);
     }
     let n = stored.len() / PAGE_WORDS;
-    let k = chain_trace::chain_check(copies, n, o);
-    match k {
-        Check::Refuse(x) => Answer::Refused(x),
-        Check::Accept => Answer::Done(chain_trace::chain_apply(copies, buffer, n, o)),
-    }
+    chain_trace::chain_check(copies, n, o)?;
+    Ok(chain_trace::chain_apply(copies, buffer, n, o))
 }
 
 // Shows the chain of references that keeps object o in the copies.
@@ -60,7 +57,7 @@ pub fn chain(
         work,
         buffer.len() == MAX_OBJECTS,
     ) {
-        return Answer::Refused(Refusal::Malformed);
+        return Err(Refusal::Malformed);
     }
     held_chain(stored, copies, received, log, counts, work, buffer, o)
 }

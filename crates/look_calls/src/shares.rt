@@ -24,14 +24,11 @@ pub fn held_pass_share(
     ensures share_after { share.new ≡ pass_share_after (areas stored.now copies.now received.now log.now counts.now work.now) share.old commits }
 {
     if !entry::is_open(work) {
-        return Answer::Refused(Refusal::NotOpen);
+        return Err(Refusal::NotOpen);
     }
     let n = stored.len() / PAGE_WORDS;
-    let k = pass_shares::share_check(commits);
-    match k {
-        Check::Refuse(x) => Answer::Refused(x),
-        Check::Accept => Answer::Done(pass_shares::share_apply(share, n, commits)),
-    }
+    pass_shares::share_check(commits)?;
+    Ok(pass_shares::share_apply(share, n, commits))
 }
 
 // Tells what each of a number of commits owes of the steps of a pass.
@@ -57,7 +54,7 @@ pub fn pass_share(
         work,
         share.len() == SHARE_WORDS,
     ) {
-        return Answer::Refused(Refusal::Malformed);
+        return Err(Refusal::Malformed);
     }
     held_pass_share(stored, copies, received, log, counts, work, share, commits)
 }

@@ -9,7 +9,7 @@ use lib.Dec.{eqb}
 use borrow.Author.Tests.{eqb-true, eqb-false, lt-ltb}
 use Rattle.words.specs.Tests.{by_bool, clash, or_cases}
 use Rattle.words.specs.Bits.{bit, without_bit, bit_none, without_other}
-use Rattle.pages.specs.Geometry.{page_of, is_object, is_ref, is_ref_at}
+use Rattle.pages.specs.Geometry.{page_of, is_object, is_ref_at}
 use Rattle.areas.specs.Areas.{Areas}
 use Rattle.areas.specs.Layout.{active_at, readers_at, writers_at, unflushed_at, known_at}
 use Rattle.areas.specs.Tables.{at, has, can_write, knows}

@@ -1,5 +1,5 @@
 -- The working tables after a set, as the collector machine's: n is the number of pages. Assumes nothing.
-use Prim.Native.Nat.{ℕ, ◌+◌, ◌*◌, ◌<◌, ◌≤◌}
+use Prim.Native.Nat.{ℕ, ◌<◌, ◌≤◌}
 use native.Mathlib.Omega.{arith}
 use mathlib.Core.Path.{◌≡◌, refl, sym, ap, ◌∙◌, fun_ext}
 use mathlib.Core.Bool.{Bool, true, false, not, ◌&&◌}
@@ -9,7 +9,7 @@ use lib.ListN.{length}
 use lib.Dec.{eqb, ltb}
 use borrow.Author.Tests.{eqb-true, eqb-false, eq-eqb, ne_eqb, ltb-true, not-true}
 use Rattle.words.specs.Tests.{if, by_bool, and_split}
-use Rattle.pages.specs.Geometry.{page_of, is_ref, is_ref_at, object_count, slot_words}
+use Rattle.pages.specs.Geometry.{page_of, is_ref_at, object_count, slot_words}
 use Rattle.pages.specs.Objects.{word_of}
 use Rattle.pages.specs.Soundness.{area_sound}
 use Rattle.areas.specs.Layout.{phase_at, pass_page_at, steps_at, unflushed_at, known_at, pruned_at, created_at, colour_at, table_words}

@@ -24,20 +24,16 @@ pub fn held_mark(
     ensures { out result stored.now copies.now received.now log.now counts.now work.new ≡ call_mark (areas stored.now copies.now received.now log.now counts.now work.old) t m }
 {
     if !entry::is_open(work) {
-        return Answer::Refused(Refusal::NotOpen);
+        return Err(Refusal::NotOpen);
     }
     let n = stored.len() / PAGE_WORDS;
-    let k = marks::mark_check(work, t, m);
-    match k {
-        Check::Refuse(x) => Answer::Refused(x),
-        Check::Accept => {
-            marks::mark_apply(log, counts, work, n, t, m);
-            Answer::Done(0)
-        }
-    }
+    marks::mark_check(work, t, m)?;
+    marks::mark_apply(log, counts, work, n, t, m);
+    Ok(0)
 }
 
 // Sets mark m of transaction t, or sets it again.
+#[tactic(auto, using(areas::specs::Entry::called_malformed), unfolding(calls::specs::Marks::call_mark))]
 pub fn mark(
     stored: &[u32],
     copies: &[u32],
@@ -51,7 +47,7 @@ pub fn mark(
     ensures { out result stored.now copies.now received.now log.now counts.now work.new ≡ call_mark (areas stored.now copies.now received.now log.now counts.now work.old) t m }
 {
     if !entry::well_formed(stored, copies, received, log, counts, work, true) {
-        return Answer::Refused(Refusal::Malformed);
+        return Err(Refusal::Malformed);
     }
     held_mark(stored, copies, received, log, counts, work, t, m)
 }
@@ -71,20 +67,16 @@ pub fn held_back(
     ensures { out result stored.now copies.now received.new log.new counts.new work.new ≡ call_back (areas stored.now copies.now received.old log.old counts.old work.old) t m }
 {
     if !entry::is_open(work) {
-        return Answer::Refused(Refusal::NotOpen);
+        return Err(Refusal::NotOpen);
     }
     let n = stored.len() / PAGE_WORDS;
-    let k = going_back::back_check(log, counts, work, n, t, m);
-    match k {
-        Check::Refuse(x) => Answer::Refused(x),
-        Check::Accept => {
-            going_back::back_apply(received, log, counts, work, n, t, m);
-            Answer::Done(0)
-        }
-    }
+    going_back::back_check(log, counts, work, n, t, m)?;
+    going_back::back_apply(received, log, counts, work, n, t, m);
+    Ok(0)
 }
 
 // Takes transaction t back to its mark m.
+#[tactic(auto, using(areas::specs::Entry::called_malformed), unfolding(calls::specs::Marks::call_back))]
 pub fn back(
     stored: &[u32],
     copies: &[u32],
@@ -98,7 +90,7 @@ pub fn back(
     ensures { out result stored.now copies.now received.new log.new counts.new work.new ≡ call_back (areas stored.now copies.now received.old log.old counts.old work.old) t m }
 {
     if !entry::well_formed(stored, copies, received, log, counts, work, true) {
-        return Answer::Refused(Refusal::Malformed);
+        return Err(Refusal::Malformed);
     }
     held_back(stored, copies, received, log, counts, work, t, m)
 }

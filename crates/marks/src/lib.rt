@@ -21,12 +21,12 @@ pub fn mark_check(work: &[u32], t: u32, m: u32) -> Check
     ensures { result ≡ verdict (mark_tests (areas [] [] [] [] [] work.now) t m) }
 {
     if !((t < TXNS) & (m < layout::MARKS)) {
-        return Check::Refuse(Refusal::OutOfRange);
+        return Err(Refusal::OutOfRange);
     }
     if store_ops::has(work, layout::ACTIVE_AT, t) {
-        Check::Accept
+        Ok(())
     } else {
-        Check::Refuse(Refusal::WrongState)
+        Err(Refusal::WrongState)
     }
 }
 

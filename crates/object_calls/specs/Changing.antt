@@ -1,5 +1,5 @@
 -- A create and a set: what their tests give the code, and the tables that they leave. Assumes nothing.
-use Rattle.std.specs.Prelude.{ℕ, ◌*◌, ◌<◌, ◌≤◌, ◌≡◌, refl, true, false, List, [], length}
+use Rattle.std.specs.Prelude.{ℕ, ◌*◌, ◌<◌, ◌≤◌, ◌≡◌, refl, true, false, List, [], length, Ok}
 use Rattle.std.proofs.Common.{sym, ap, ◌∙◌, inl, inr, arith}
 use borrow.Author.Tests.{lt-ltb}
 use Rattle.words.specs.Tests.{if, clash}
@@ -7,7 +7,6 @@ use Rattle.pages.specs.Geometry.{slot_words, page_words, ref_words, page_of, obj
 use Rattle.pages.specs.Objects.{occupied, word_of}
 use Rattle.page_laws.specs.SoundFacts.{sound_facts, ref_in_range}
 use Rattle.records.specs.Records.{txn_count, create_of, set_of}
-use Rattle.areas.specs.declared.Check.TheVariants.{Accept}
 use Rattle.areas.specs.Answers.{verdict}
 use Rattle.areas.specs.Areas.{Areas, areas}
 use Rattle.areas.specs.Layout.{HasTables, unflushed_at}
@@ -42,7 +41,7 @@ module _ (s : Areas) (n : ℕ) (h : Open s n) where
   ref_below o f l = lt-ltb f ref_words l
 
 module _ (s c r g k w : List ℕ) (n t o : ℕ) (h : Open (areas s c r g k w) n) where
-  pub create_ready : verdict (create_tests (areas [] [] r g k w) n t o) ≡ Accept →
+  pub create_ready : verdict (create_tests (areas [] [] r g k w) n t o) ≡ Ok tt →
       Fits r g k (create_of t o) × HasTables w n × (t < txn_count) × (1 ≤ o) × (o ≤ object_count n)
   create_ready p =
       let q = create_facts (areas s c r g k w) n t o (sym (ap verdict (create_looks s c r g k w n t o)) ∙ p) in
@@ -51,7 +50,7 @@ module _ (s c r g k w : List ℕ) (n t o : ℕ) (h : Open (areas s c r g k w) n)
       let b = q.object in
       (open_fits _ n _ h (create_sound n t q.txn o b.top (omega arith)) (omega arith), h.sized.tables, q.txn, b.low, b.top)
 
-  pub set_ready : (f v : ℕ) → verdict (set_tests (areas [] [] r g k w) n t o f v) ≡ Accept →
+  pub set_ready : (f v : ℕ) → verdict (set_tests (areas [] [] r g k w) n t o f v) ≡ Ok tt →
       Fits r g k (set_of t o f (word_of r o f) v) × (page_words * n ≤ length r) × HasTables w n × (t < txn_count) × (1 ≤ o) × (o ≤ object_count n)
       × (f < slot_words) × (is_ref r o f ≡ true → word_of r o f ≤ object_count n)
   set_ready f v p =

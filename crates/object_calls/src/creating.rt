@@ -21,19 +21,15 @@ pub fn held_create(
     ensures { out result stored.now copies.now received.new log.new counts.new work.new ≡ call_create (areas stored.now copies.now received.old log.old counts.old work.old) t o }
 {
     if !entry::is_open(work) {
-        return Answer::Refused(Refusal::NotOpen);
+        return Err(Refusal::NotOpen);
     }
     let n = stored.len() / PAGE_WORDS;
-    let k = object_checks::create_check(received, log, counts, work, n, t, o);
-    match k {
-        Check::Refuse(x) => Answer::Refused(x),
-        Check::Accept => {
-            Answer::Done(object_changes::create_apply(received, log, counts, work, n, t, o))
-        }
-    }
+    object_checks::create_check(received, log, counts, work, n, t, o)?;
+    Ok(object_changes::create_apply(received, log, counts, work, n, t, o))
 }
 
 // Creates a named object in a free slot, under the write lock.
+#[tactic(auto, using(areas::specs::Entry::called_malformed), unfolding(calls::specs::Objects::call_create))]
 pub fn create(
     stored: &[u32],
     copies: &[u32],
@@ -47,7 +43,7 @@ pub fn create(
     ensures { out result stored.now copies.now received.new log.new counts.new work.new ≡ call_create (areas stored.now copies.now received.old log.old counts.old work.old) t o }
 {
     if !entry::well_formed(stored, copies, received, log, counts, work, true) {
-        return Answer::Refused(Refusal::Malformed);
+        return Err(Refusal::Malformed);
     }
     held_create(stored, copies, received, log, counts, work, t, o)
 }

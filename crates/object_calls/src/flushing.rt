@@ -23,20 +23,16 @@ pub fn held_flush(
     ensures { out result stored.now copies.new received.now log.now counts.now work.new ≡ call_flush (areas stored.now copies.old received.now log.now counts.now work.old) t p image.now }
 {
     if !entry::is_open(work) {
-        return Answer::Refused(Refusal::NotOpen);
+        return Err(Refusal::NotOpen);
     }
     let n = stored.len() / PAGE_WORDS;
-    let k = object_checks::flush_check(received, work, image, n, t, p);
-    match k {
-        Check::Refuse(x) => Answer::Refused(x),
-        Check::Accept => {
-            objects::flush_apply(received, copies, work, n, t, p);
-            Answer::Done(0)
-        }
-    }
+    object_checks::flush_check(received, work, image, n, t, p)?;
+    objects::flush_apply(received, copies, work, n, t, p);
+    Ok(0)
 }
 
 // Flushes a page under the write lock: the image must agree with the received page, which the page copy becomes.
+#[tactic(auto, using(areas::specs::Entry::called_malformed), unfolding(calls::specs::Objects::call_flush))]
 pub fn flush(
     stored: &[u32],
     copies: &mut [u32],
@@ -59,7 +55,7 @@ pub fn flush(
         work,
         image.len() == PAGE_WORDS,
     ) {
-        return Answer::Refused(Refusal::Malformed);
+        return Err(Refusal::Malformed);
     }
     held_flush(stored, copies, received, log, counts, work, t, p, image)
 }

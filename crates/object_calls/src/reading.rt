@@ -24,14 +24,11 @@ pub fn held_read(
     ensures buffer_after { buffer.new ≡ buffer_after (areas stored.now copies.now received.now log.now counts.now work.old) t o buffer.old }
 {
     if !entry::is_open(work) {
-        return Answer::Refused(Refusal::NotOpen);
+        return Err(Refusal::NotOpen);
     }
     let n = stored.len() / PAGE_WORDS;
-    let k = object_checks::read_check(work, n, t, o);
-    match k {
-        Check::Refuse(x) => Answer::Refused(x),
-        Check::Accept => Answer::Done(objects::read_apply(received, work, buffer, n, t, o)),
-    }
+    object_checks::read_check(work, n, t, o)?;
+    Ok(objects::read_apply(received, work, buffer, n, t, o))
 }
 
 // Reads a known object into a buffer of a slot's words, under either lock.
@@ -58,7 +55,7 @@ pub fn read(
         work,
         buffer.len() == SLOT_WORDS,
     ) {
-        return Answer::Refused(Refusal::Malformed);
+        return Err(Refusal::Malformed);
     }
     held_read(stored, copies, received, log, counts, work, buffer, t, o)
 }

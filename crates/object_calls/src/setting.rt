@@ -23,19 +23,15 @@ pub fn held_set_word(
     ensures { out result stored.now copies.now received.new log.new counts.new work.new ≡ call_set (areas stored.now copies.now received.old log.old counts.old work.old) t o f v }
 {
     if !entry::is_open(work) {
-        return Answer::Refused(Refusal::NotOpen);
+        return Err(Refusal::NotOpen);
     }
     let n = stored.len() / PAGE_WORDS;
-    let k = object_checks::set_check(received, log, counts, work, n, t, o, f, v);
-    match k {
-        Check::Refuse(x) => Answer::Refused(x),
-        Check::Accept => {
-            Answer::Done(object_changes::set_apply(received, log, counts, work, n, t, o, f, v))
-        }
-    }
+    object_checks::set_check(received, log, counts, work, n, t, o, f, v)?;
+    Ok(object_changes::set_apply(received, log, counts, work, n, t, o, f, v))
 }
 
 // Sets word f of a known object to v, under the write lock.
+#[tactic(auto, using(areas::specs::Entry::called_malformed), unfolding(calls::specs::Objects::call_set))]
 pub fn set_word(
     stored: &[u32],
     copies: &[u32],
@@ -51,7 +47,7 @@ pub fn set_word(
     ensures { out result stored.now copies.now received.new log.new counts.new work.new ≡ call_set (areas stored.now copies.now received.old log.old counts.old work.old) t o f v }
 {
     if !entry::well_formed(stored, copies, received, log, counts, work, true) {
-        return Answer::Refused(Refusal::Malformed);
+        return Err(Refusal::Malformed);
     }
     held_set_word(stored, copies, received, log, counts, work, t, o, f, v)
 }

@@ -53,18 +53,18 @@ pub fn read_check(work: &[u32], n: usize, t: u32, o: u32) -> Check
     ensures { result ≡ verdict (read_tests (areas [] [] [] [] [] work.now) n t o) }
 {
     if !in_range(n, t, o) {
-        return Check::Refuse(Refusal::OutOfRange);
+        return Err(Refusal::OutOfRange);
     }
     if !store_ops::has(work, layout::ACTIVE_AT, t) {
-        return Check::Refuse(Refusal::WrongState);
+        return Err(Refusal::WrongState);
     }
     if !store_ops::can_read(work, n, t, (o as usize - 1) / SLOTS) {
-        return Check::Refuse(Refusal::NotLocked);
+        return Err(Refusal::NotLocked);
     }
     if !store_ops::knows(work, n, t, o) {
-        return Check::Refuse(Refusal::Unknown);
+        return Err(Refusal::Unknown);
     }
-    Check::Accept
+    Ok(())
 }
 
 // Whether t may create object o.
@@ -82,21 +82,21 @@ pub fn create_check(
     ensures { result ≡ verdict (create_tests (areas [] [] received.now log.now counts.now work.now) n t o) }
 {
     if !in_range(n, t, o) {
-        return Check::Refuse(Refusal::OutOfRange);
+        return Err(Refusal::OutOfRange);
     }
     if !store_ops::has(work, layout::ACTIVE_AT, t) {
-        return Check::Refuse(Refusal::WrongState);
+        return Err(Refusal::WrongState);
     }
     if !store_ops::can_write(work, n, t, (o as usize - 1) / SLOTS) {
-        return Check::Refuse(Refusal::NotLocked);
+        return Err(Refusal::NotLocked);
     }
     if change::occupied(received, o) {
-        return Check::Refuse(Refusal::Occupied);
+        return Err(Refusal::Occupied);
     }
     if !log_ops::room_beyond(log, counts, work, n, log_ops::CHANGE_ROOM) {
-        return Check::Refuse(Refusal::LogFull);
+        return Err(Refusal::LogFull);
     }
-    Check::Accept
+    Ok(())
 }
 
 // Whether t may set word f of object o to v.
@@ -116,24 +116,24 @@ pub fn set_check(
     ensures { result ≡ verdict (set_tests (areas [] [] received.now log.now counts.now work.now) n t o f v) }
 {
     if !(in_range(n, t, o) & ((f as usize) < SLOT_WORDS)) {
-        return Check::Refuse(Refusal::OutOfRange);
+        return Err(Refusal::OutOfRange);
     }
     if !store_ops::has(work, layout::ACTIVE_AT, t) {
-        return Check::Refuse(Refusal::WrongState);
+        return Err(Refusal::WrongState);
     }
     if !store_ops::can_write(work, n, t, (o as usize - 1) / SLOTS) {
-        return Check::Refuse(Refusal::NotLocked);
+        return Err(Refusal::NotLocked);
     }
     if !(store_ops::knows(work, n, t, o) & may_write(received, work, n, t, o, f, v)) {
-        return Check::Refuse(Refusal::Unknown);
+        return Err(Refusal::Unknown);
     }
     if names_itself(received, o, f, v) {
-        return Check::Refuse(Refusal::SelfReference);
+        return Err(Refusal::SelfReference);
     }
     if !log_ops::room_beyond(log, counts, work, n, log_ops::CHANGE_ROOM) {
-        return Check::Refuse(Refusal::LogFull);
+        return Err(Refusal::LogFull);
     }
-    Check::Accept
+    Ok(())
 }
 
 // Whether t may flush page p, of which it sends an image.
@@ -142,16 +142,16 @@ pub fn flush_check(received: &[u32], work: &[u32], image: &[u32], n: usize, t: u
     ensures { result ≡ verdict (flush_tests (areas [] [] received.now [] [] work.now) n t p image.now) }
 {
     if !page_in_range(n, t, p) {
-        return Check::Refuse(Refusal::OutOfRange);
+        return Err(Refusal::OutOfRange);
     }
     if !store_ops::has(work, layout::ACTIVE_AT, t) {
-        return Check::Refuse(Refusal::WrongState);
+        return Err(Refusal::WrongState);
     }
     if !store_ops::can_write(work, n, t, p as usize) {
-        return Check::Refuse(Refusal::NotLocked);
+        return Err(Refusal::NotLocked);
     }
     if !images::page_agrees(image, received, p as usize) {
-        return Check::Refuse(Refusal::Differs);
+        return Err(Refusal::Differs);
     }
-    Check::Accept
+    Ok(())
 }

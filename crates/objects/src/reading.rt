@@ -18,9 +18,7 @@ fn show(received: &[u32], buffer: &mut [u32], o: u32)
 {
     let i = (o - 1) as usize;
     let b = pages::slot_at(i / SLOTS, i % SLOTS, 0);
-    for f in 0..SLOT_WORDS {
-        buffer[f] = received[b + f];
-    }
+    buffer.copy_from_slice(&received[b..b + SLOT_WORDS]);
 }
 
 // Word f of object o, if it is a reference other than 0, becomes known to t. The received pages are sound: the reference is in range.

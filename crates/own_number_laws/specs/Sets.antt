@@ -1,12 +1,10 @@
 -- Document 02, L8, as statements of every store, whatever its words: 'A set that writes an object's own number into one of its reference
 -- words is refused', with 18, 'after 7'; and no other set changes. Assumes nothing.
-use Rattle.std.specs.Prelude.{ℕ, ◌≡◌, true, not, ◌&&◌, ◌||◌, List, [], ◌∷◌, eqb, ltb}
+use Rattle.std.specs.Prelude.{ℕ, ◌≡◌, true, not, ◌&&◌, ◌||◌, List, [], ◌∷◌, eqb, ltb, Ok, Err}
 use Rattle.words.specs.Tests.{if}
 use Rattle.pages.specs.Geometry.{slot_words, page_of, is_object, is_ref}
 use Rattle.areas.specs.declared.Refusal.TheVariants.{OutOfRange, WrongState, NotLocked, Unknown, LogFull, SelfReference}
-use Rattle.areas.specs.declared.Answer.{Answer}
-use Rattle.areas.specs.declared.Answer.TheVariants.{Done, Refused}
-use Rattle.areas.specs.Answers.{Test, need, number_of}
+use Rattle.areas.specs.Answers.{Test, need, number_of, Answer}
 use Rattle.areas.specs.Areas.{Areas, Out, done, received_count}
 use Rattle.areas.specs.Tables.{is_txn, is_active, can_write, knows}
 use Rattle.areas.specs.Entry.{called}
@@ -39,8 +37,8 @@ SetsElseAsBefore = (s : Areas) (t o f v : ℕ) → (WritesOwn s o f v → ⊥) �
 
 -- '18 .. after 7': in place of a result, and of a refusal for room; a refusal of a lower number stays
 abbrev pub instead_of : Answer → Answer
-instead_of (Done v) = Refused SelfReference
-instead_of (Refused x) = if (eqb (number_of x) 11) (Refused SelfReference) (Refused x)
+instead_of (Ok v) = Err SelfReference
+instead_of (Err x) = if (eqb (number_of x) 11) (Err SelfReference) (Err x)
 
 -- 'is refused', and changes nothing
 abbrev pub OwnSetsRefused : Type 0

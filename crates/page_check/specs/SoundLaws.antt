@@ -1,9 +1,10 @@
 -- The soundness of a page slot by slot, as the code finds it. Assumes nothing.
 use Rattle.std.specs.Prelude.{ℕ, zero, suc, ◌+◌, ◌*◌, ◌-◌, ◌%◌, ◌^◌, ◌<◌, ◌≡◌, refl, Bool, true, false, not, ◌&&◌, ◌||◌, List, [], ◌∷◌, eqb, leb, get_or}
 use Rattle.std.proofs.Common.{sym, ap, ◌∙◌, add-zero, arith, le-leb}
+use Rattle.std.specs.List.{list_all, range_with_len}
 use Rattle.std.specs.Int.Bits.{bit_and, bit_or, and_zero_r}
 use Rattle.std.proofs.lemmas.Nat.{and_mask, or_lt}
-use Rattle.words.specs.Tests.{all, all_both, all_same, all_intro, and_t, or_r, and_true, and_false, and_assoc, and_swap, and_cong, all_next, and_comm}
+use Rattle.words.specs.Tests.{all, all_both, all_same, all_intro, all_split, and_t, or_r, and_true, and_assoc, and_swap, and_cong, all_next, and_comm}
 use Rattle.pages.specs.Geometry.{slot_count, slot_words, slot_at, object_count, ref_words, is_ref_at}
 use Rattle.pages.specs.Objects.{taken, slot_word}
 use Rattle.pages.specs.Soundness.{map_sound, ref_sound, refs_sound, slot_zero, free_zero, page_sound}
@@ -158,3 +159,17 @@ pub free_row : (d : ℕ) → d < 2 → FreeRow d
 free_row zero h = (refl, refl, refl, refl)
 free_row (suc zero) h = (refl, refl, refl, refl)
 free_row (suc (suc d)) h = absurd (omega arith)
+
+-- a test over every number below a bound, as the library's `all` makes it over a range
+all_from : (f : ℕ → Bool) (a n : ℕ) → list_all f (range_with_len a n) ≡ all (λ i. f (a + i)) n
+unfolding all
+all_from f a zero = refl
+all_from f a (suc n) =
+    let e : f a ≡ f (a + 0) = ap f (omega arith) in
+    let d : list_all f (range_with_len (a + 1) n) ≡ all (λ i. f (a + (1 + i))) n =
+    all_from f (a + 1) n ∙ all_same (λ i. f (a + 1 + i)) (λ i. f (a + (1 + i))) n (λ i l. ap f (omega arith)) in
+    let k : suc n ≡ 1 + n = omega arith in
+    and_cong e d ∙ sym (ap (all (λ i. f (a + i))) k ∙ all_split (λ i. f (a + i)) 1 n)
+
+pub all_range : (f : ℕ → Bool) (n : ℕ) → list_all f (range_with_len 0 n) ≡ all f n
+all_range f n = all_from f 0 n ∙ all_same (λ i. f (0 + i)) f n (λ i l. ap f (omega arith))

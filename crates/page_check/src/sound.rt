@@ -55,12 +55,7 @@ pub fn area_sound(a: &[u32], n: usize) -> bool
     requires { (1 ≤ n) × (n ≤ max_pages) × (page_words * n ≤ length a.now) }
     ensures { result ≡ area_sound a.now n }
 {
-    for p in 0..n {
-        if !page_sound(a, n, p) {
-            return false;
-        }
-    }
-    words::has_bit(a[0], 0)
+    (0..n).all(|p| page_sound(a, n, p)) && words::has_bit(a[0], 0)
 }
 
 // Whether the free slots of page p are zero: no reference is above the largest word.
@@ -76,10 +71,5 @@ pub fn pages_free_zero(a: &[u32], n: usize) -> bool
     requires { page_words * n ≤ length a.now }
     ensures { result ≡ all (free_zero a.now) n }
 {
-    for p in 0..n {
-        if !free_zero(a, p) {
-            return false;
-        }
-    }
-    true
+    (0..n).all(|p| free_zero(a, p))
 }

@@ -11,9 +11,7 @@ pub fn put_head(page: &[u32], out: &mut [u32])
     requires { (page_words ≤ length page.now) × (page_words ≤ length out.old) }
     ensures { out.new ≡ copied page.now out.old 0 head_words }
 {
-    for i in 0..pages::HEAD_WORDS {
-        out[i] = page[i];
-    }
+    out[..pages::HEAD_WORDS].copy_from_slice(&page[..pages::HEAD_WORDS]);
 }
 
 // Where place s of row w stands.
@@ -50,8 +48,8 @@ fn slot_in(page: &[u32], s: usize) -> [u32; pages::SLOT_WORDS]
     ensures { result ≡ tabulate (λ w. get_or page.now (column_at w s) 0) slot_words }
 {
     let mut r = [0u32; pages::SLOT_WORDS];
-    for w in 0..pages::SLOT_WORDS {
-        r[w] = page[column_at(w, s)];
+    for (w, word) in r.iter_mut().enumerate() {
+        *word = page[column_at(w, s)];
     }
     r
 }
@@ -62,8 +60,8 @@ pub fn slots_in(page: &[u32]) -> [[u32; pages::SLOT_WORDS]; pages::SLOTS]
     ensures { result ≡ slots_in page.now }
 {
     let mut t = [[0u32; pages::SLOT_WORDS]; pages::SLOTS];
-    for s in 0..pages::SLOTS {
-        t[s] = slot_in(page, s);
+    for (s, row) in t.iter_mut().enumerate() {
+        *row = slot_in(page, s);
     }
     t
 }

@@ -6,17 +6,14 @@ pub fn clear_words(a: &mut [u32], b: usize, k: usize)
     requires { b + k ≤ length a.old }
     ensures { a.new ≡ fill (λ i. 0) a.old b k }
 {
-    for i in 0..k {
-        a[b + i] = 0;
-    }
+    a[b..b + k].fill(0);
 }
 
 // Every word becomes 0.
 pub fn clear(a: &mut [u32])
     ensures { a.new ≡ replicate (length a.old) 0 }
 {
-    let k = a.len();
-    clear_words(a, 0, k);
+    a.fill(0);
 }
 
 // One area becomes another.
@@ -24,7 +21,5 @@ pub fn copy_area(from: &[u32], to: &mut [u32])
     requires { length to.old ≡ length from.now }
     ensures { to.new ≡ from.now }
 {
-    for i in 0..from.len() {
-        to[i] = from[i];
-    }
+    to.copy_from_slice(from);
 }

@@ -9,9 +9,7 @@ pub fn copy_page(from: &[u32], to: &mut [u32], p: usize)
     ensures { to.new ≡ copied_page from.now to.old p }
 {
     let b = pages::PAGE_WORDS * p;
-    for i in 0..pages::PAGE_WORDS {
-        to[b + i] = from[b + i];
-    }
+    to[b..b + pages::PAGE_WORDS].copy_from_slice(&from[b..b + pages::PAGE_WORDS]);
 }
 
 // Whether an area is the beginning of another, which is no shorter.

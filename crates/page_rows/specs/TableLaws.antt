@@ -1,11 +1,14 @@
 -- A page's table of rows: read, changed and written back. Assumes nothing.
-use Rattle.std.specs.Prelude.{ℕ, zero, suc, ◌+◌, ◌<◌, ◌≡◌, length, get_or, replicate}
+use Rattle.std.specs.Prelude.{ℕ, suc, ◌+◌, ◌<◌, ◌≡◌, length, get_or, replicate, eqb}
+use Rattle.std.specs.Cmp.Lexicographic.{pointwise}
 use Rattle.std.proofs.Math.Path.{refl, sym, ap}
 use Rattle.std.proofs.Common.{◌∙◌, drop_of_length-le, drop-cons, add-zero, add-one, arith}
 use mathlib.Core.List.{List, [], ◌∷◌, ◌++◌, append-nil}
+use Rattle.std.proofs.lemmas.List.{get_or_at}
 use Rattle.std.proofs.Math.ListN.{set, drop}
 use Rattle.std.proofs.Math.Seq.{paste, set_at, append_snoc}
-use Rattle.words.specs.Tests.{if}
+use Rattle.words.specs.Tests.{if, all, and_assoc, and_true}
+use Rattle.words.specs.Spans.{same}
 use Rattle.words.specs.Bits.{bit}
 use Rattle.pages.specs.Geometry.{slot_at, slot_count, slot_words}
 use Rattle.pages.specs.Table.{tabulate, row_of, with_rows}
@@ -51,8 +54,18 @@ module _ {A : Type 0} where
       ∙ sym (append_snoc (tabulate f n) (f n) (drop (suc n) l))
       ∙ ap (λ (m : ℕ). tabulate f m ++ drop m l) (sym (add-one n))
 
+  pub tab_rest : (f : ℕ → A) (n : ℕ) (l : List A) (d : A) (x : List A) → x ≡ tabulate f n ++ drop n l → n < length l → get_or x n d ≡ get_or l n d
+  tab_rest f n l d x e h =
+      ap (λ (r : List A). get_or r n d) (e ∙ ap (λ (r : List A). tabulate f n ++ r) (drop-cons l n d h))
+      ∙ get_or_at (tabulate f n) (get_or l n d) (drop (suc n) l) d n (length_tab f n)
+
   pub tab_end : (f : ℕ → A) (n i : ℕ) (l x : List A) → x ≡ tabulate f i ++ drop i l → i ≡ n → length l ≡ n → x ≡ tabulate f n
   tab_end f n i l x h e q = h ∙ rw (e, drop_of_length-le l {i = n} (omega arith)) (append-nil (tabulate f n))
+
+-- two rows compared word by word
+pub words_same : (x : List ℕ) (i : ℕ) (y : List ℕ) (j : ℕ) → pointwise eqb (words_from x i) (words_from y j) ≡ same x i y j slot_words
+unfolding same all
+words_same x i y j = simp (add-zero, and_assoc, and_true)
 
 -- a row read from its slot, and one more row written
 pub row_words : (a : List ℕ) (p s : ℕ) → words_from a (slot_at p s 0) ≡ row_of a p s

@@ -2,6 +2,8 @@ ghost use Rattle.std.specs.Prelude.{◌≡◌, ◌+◌, ◌<◌, ◌≤◌, leng
 ghost use Rattle.pages.specs.Geometry.{slot_count, page_words, page_at};
 ghost use Rattle.pages.specs.Images.{slot_agrees, agrees};
 
+use super::rows;
+
 // Whether slot s of an image has the words of slot s of page p.
 fn slot_agrees(image: &[u32], a: &[u32], p: usize, s: usize) -> bool
     requires { (page_words ≤ length image.now) × (page_at p + page_words ≤ length a.now) × (s < slot_count) }
@@ -9,11 +11,7 @@ fn slot_agrees(image: &[u32], a: &[u32], p: usize, s: usize) -> bool
 {
     let i = pages::slot_at(0, s, 0);
     let b = pages::slot_at(p, s, 0);
-    let mut ok = true;
-    for f in 0..pages::SLOT_WORDS {
-        ok = ok & (image[i + f] == a[b + f]);
-    }
-    ok
+    rows::words_from(image, i) == rows::words_from(a, b)
 }
 
 // Whether an image agrees with page p: in each slot that is occupied in the page.

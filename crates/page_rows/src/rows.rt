@@ -6,20 +6,11 @@ ghost use Rattle.pages.specs.Table.{rows_of, with_rows};
 ghost use Rattle.page_rows.specs.TableLaws.{words_from, zero_row, freed_rows};
 
 // The words of a slot from b, by value.
-fn words_from(a: &[u32], b: usize) -> [u32; pages::SLOT_WORDS]
+pub(crate) fn words_from(a: &[u32], b: usize) -> [u32; pages::SLOT_WORDS]
     requires { b + slot_words ≤ length a.now }
     ensures { result ≡ words_from a.now b }
 {
-    [
-        a[b],
-        a[b + 1],
-        a[b + 2],
-        a[b + 3],
-        a[b + 4],
-        a[b + 5],
-        a[b + 6],
-        a[b + 7],
-    ]
+    a[b..b + pages::SLOT_WORDS].try_into().unwrap()
 }
 
 // The rows of page p, by value.
@@ -28,20 +19,18 @@ pub fn rows_of(a: &[u32], p: usize) -> [[u32; pages::SLOT_WORDS]; pages::SLOTS]
     ensures { result ≡ rows_of a.now p }
 {
     let mut t = [[0u32; pages::SLOT_WORDS]; pages::SLOTS];
-    for s in 0..pages::SLOTS {
-        t[s] = words_from(a, pages::slot_at(p, s, 0));
+    for (s, row) in t.iter_mut().enumerate() {
+        *row = words_from(a, pages::slot_at(p, s, 0));
     }
     t
 }
 
 // A row written from b.
-fn put_row(a: &mut [u32], b: usize, r: [u32; pages::SLOT_WORDS])
+fn put_row(a: &mut [u32], b: usize, r: &[u32; pages::SLOT_WORDS])
     requires { b + slot_words ≤ length a.old }
-    ensures { a.new ≡ paste a.old b r slot_words }
+    ensures { a.new ≡ paste a.old b r.now slot_words }
 {
-    for f in 0..pages::SLOT_WORDS {
-        a[b + f] = r[f];
-    }
+    a[b..b + pages::SLOT_WORDS].copy_from_slice(r);
 }
 
 // A table written into page p, whose map stays.
@@ -49,9 +38,8 @@ pub fn put_rows(a: &mut [u32], p: usize, t: [[u32; pages::SLOT_WORDS]; pages::SL
     requires { page_at p + page_words ≤ length a.old }
     ensures { a.new ≡ with_rows a.old p t slot_count }
 {
-    for s in 0..pages::SLOTS {
-        let r = t[s];
-        put_row(a, pages::slot_at(p, s, 0), r);
+    for (s, row) in t.iter().enumerate() {
+        put_row(a, pages::slot_at(p, s, 0), row);
     }
 }
 
@@ -64,15 +52,13 @@ fn kept_row(r: [u32; pages::SLOT_WORDS], freed: bool) -> [u32; pages::SLOT_WORDS
 
 // The table with the rows of the map m zero.
 pub fn freed_rows(
-    t: [[u32; pages::SLOT_WORDS]; pages::SLOTS],
+    mut t: [[u32; pages::SLOT_WORDS]; pages::SLOTS],
     m: u32,
 ) -> [[u32; pages::SLOT_WORDS]; pages::SLOTS]
     ensures { result ≡ freed_rows t m }
 {
-    let mut u = t;
-    for s in 0..pages::SLOTS {
-        let r = t[s];
-        u[s] = kept_row(r, words::has_bit(m, s));
+    for (s, row) in t.iter_mut().enumerate() {
+        *row = kept_row(*row, words::has_bit(m, s));
     }
-    u
+    t
 }

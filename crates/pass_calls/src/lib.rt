@@ -22,20 +22,16 @@ pub fn held_start_pass(
     ensures { out result stored.now copies.now received.now log.now counts.now work.new ≡ call_pass (areas stored.now copies.now received.now log.now counts.now work.old) }
 {
     if !entry::is_open(work) {
-        return Answer::Refused(Refusal::NotOpen);
+        return Err(Refusal::NotOpen);
     }
     let n = stored.len() / PAGE_WORDS;
-    let k = passes::start_check(work);
-    match k {
-        Check::Refuse(x) => Answer::Refused(x),
-        Check::Accept => {
-            pass_start::begin_pass(work, n);
-            Answer::Done(0)
-        }
-    }
+    passes::start_check(work)?;
+    pass_start::begin_pass(work, n);
+    Ok(0)
 }
 
 // Starts a pass.
+#[tactic(auto, using(areas::specs::Entry::called_malformed), unfolding(calls::specs::Pass::call_pass))]
 pub fn start_pass(
     stored: &[u32],
     copies: &[u32],
@@ -47,7 +43,7 @@ pub fn start_pass(
     ensures { out result stored.now copies.now received.now log.now counts.now work.new ≡ call_pass (areas stored.now copies.now received.now log.now counts.now work.old) }
 {
     if !entry::well_formed(stored, copies, received, log, counts, work, true) {
-        return Answer::Refused(Refusal::Malformed);
+        return Err(Refusal::Malformed);
     }
     held_start_pass(stored, copies, received, log, counts, work)
 }
@@ -65,17 +61,15 @@ pub fn held_pass_step(
     ensures { out result stored.now copies.new received.new log.new counts.new work.new ≡ call_step (areas stored.now copies.old received.old log.old counts.old work.old) }
 {
     if !entry::is_open(work) {
-        return Answer::Refused(Refusal::NotOpen);
+        return Err(Refusal::NotOpen);
     }
     let n = stored.len() / PAGE_WORDS;
-    let k = passes::step_check(work);
-    match k {
-        Check::Refuse(x) => Answer::Refused(x),
-        Check::Accept => passes::step_apply(copies, received, log, counts, work, n),
-    }
+    passes::step_check(work)?;
+    passes::step_apply(copies, received, log, counts, work, n)
 }
 
 // One step of the pass that runs: an object scanned, or a page swept. Answers the object or the number of slots freed.
+#[tactic(auto, using(areas::specs::Entry::called_malformed), unfolding(calls::specs::Pass::call_step))]
 pub fn pass_step(
     stored: &[u32],
     copies: &mut [u32],
@@ -87,7 +81,7 @@ pub fn pass_step(
     ensures { out result stored.now copies.new received.new log.new counts.new work.new ≡ call_step (areas stored.now copies.old received.old log.old counts.old work.old) }
 {
     if !entry::well_formed(stored, copies, received, log, counts, work, true) {
-        return Answer::Refused(Refusal::Malformed);
+        return Err(Refusal::Malformed);
     }
     held_pass_step(stored, copies, received, log, counts, work)
 }

@@ -18,9 +18,9 @@ pub fn share_check(commits: u32) -> Check
     ensures { result ≡ verdict (pass_share_tests commits) }
 {
     if (1 <= commits) & (commits <= MAX_COMMITS) {
-        return Check::Accept;
+        return Ok(());
     }
-    Check::Refuse(Refusal::CommitsOutOfRange)
+    Err(Refusal::CommitsOutOfRange)
 }
 
 // The most steps of a pass that covers k pages.

@@ -1,5 +1,5 @@
 -- What a pass step asks of a store, and the step from its parts: marking or sweeping. n is the number of pages. Assumes nothing.
-use Rattle.std.specs.Prelude.{ℕ, ◌*◌, ◌<◌, ◌≤◌, ◌≡◌, List, [], length, get_or}
+use Rattle.std.specs.Prelude.{ℕ, ◌*◌, ◌<◌, ◌≤◌, ◌≡◌, List, [], length, get_or, Ok, Err}
 use Rattle.std.proofs.Common.{sym, ap, ◌∙◌, arith, eq-eqb, ne_eqb}
 use Rattle.std.proofs.Math.Bool.{not}
 use Rattle.words.specs.Tests.{if_t, if_f}
@@ -8,8 +8,6 @@ use Rattle.pages.specs.Objects.{map_at}
 use Rattle.page_laws.specs.SoundFacts.{sound_facts}
 use Rattle.records.specs.Records.{record_words, max_records}
 use Rattle.areas.specs.declared.Refusal.TheVariants.{WrongState}
-use Rattle.areas.specs.declared.Answer.TheVariants.{Done}
-use Rattle.areas.specs.declared.Check.TheVariants.{Accept, Refuse}
 use Rattle.areas.specs.Answers.{verdict, need_holds, need_fails, all_passed}
 use Rattle.areas.specs.Areas.{Areas, Out, areas, out}
 use Rattle.areas.specs.Layout.{HasTables, HasUndoing, phase_at, pass_page_at}
@@ -51,19 +49,19 @@ open_steppable s n o =
 
 -- refusal 4, of the working tables
 module _ (w : List ℕ) where
-  pub start_runs : (at w phase_at ≡ 0 → ⊥) → Refuse WrongState ≡ verdict (pass_tests (areas [] [] [] [] [] w))
+  pub start_runs : (at w phase_at ≡ 0 → ⊥) → Err WrongState ≡ verdict (pass_tests (areas [] [] [] [] [] w))
   unfolding pass_tests
   start_runs h = need_fails _ _ _ _ (ap (λ b. not (not b)) (ne_eqb _ _ h))
 
-  pub start_idle : at w phase_at ≡ 0 → Accept ≡ verdict (pass_tests (areas [] [] [] [] [] w))
+  pub start_idle : at w phase_at ≡ 0 → Ok tt ≡ verdict (pass_tests (areas [] [] [] [] [] w))
   unfolding pass_tests
   start_idle h = all_passed ∙ need_holds _ _ _ _ (ap (λ b. not (not b)) (eq-eqb _ _ h))
 
-  pub step_idle : at w phase_at ≡ 0 → Refuse WrongState ≡ verdict (step_tests (areas [] [] [] [] [] w))
+  pub step_idle : at w phase_at ≡ 0 → Err WrongState ≡ verdict (step_tests (areas [] [] [] [] [] w))
   unfolding step_tests
   step_idle h = need_fails _ _ _ _ (ap not (eq-eqb _ _ h))
 
-  pub step_runs : (at w phase_at ≡ 0 → ⊥) → Accept ≡ verdict (step_tests (areas [] [] [] [] [] w))
+  pub step_runs : (at w phase_at ≡ 0 → ⊥) → Ok tt ≡ verdict (step_tests (areas [] [] [] [] [] w))
   unfolding step_tests
   step_runs h = all_passed ∙ need_holds _ _ _ _ (ap not (ne_eqb _ _ h))
 
@@ -79,7 +77,7 @@ module _ (c r g k w : List ℕ) (n : ℕ) (p : Pass) (own : p ≡ pass_of w) whe
     pub map_below : map_at c p.page ≤ map_top
     map_below = rw (own_page w p own) z.map
 
-  pub step_marks : (s : List ℕ) (v : ℕ) (w' : List ℕ) → p.phase ≡ 1 → v ≡ mark_value w n → w' ≡ mark_work c w n → out (Done v) s c r g k w' ≡ stepped (areas s c r g k w) n
+  pub step_marks : (s : List ℕ) (v : ℕ) (w' : List ℕ) → p.phase ≡ 1 → v ≡ mark_value w n → w' ≡ mark_work c w n → out (Ok v) s c r g k w' ≡ stepped (areas s c r g k w) n
   step_marks s v w' h e f = rw (e, f) (marked_as (areas s c r g k w) n) ∙ sym (if_t _ _ _ (eq-eqb (at w phase_at) 1 (sym (own_phase w p own) ∙ h)))
 
   pub step_sweeps : (s : List ℕ) (o : Out) → (p.phase ≡ 1 → ⊥) → o ≡ swept (areas s c r g k w) n → o ≡ stepped (areas s c r g k w) n

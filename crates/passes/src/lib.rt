@@ -17,9 +17,9 @@ pub fn start_check(work: &[u32]) -> Check
     ensures { result ≡ verdict (pass_tests (areas [] [] [] [] [] work.now)) }
 {
     if work[layout::PHASE_AT] != 0 {
-        return Check::Refuse(Refusal::WrongState);
+        return Err(Refusal::WrongState);
     }
-    Check::Accept
+    Ok(())
 }
 
 // Refusal 4 of a step: no pass runs.
@@ -28,9 +28,9 @@ pub fn step_check(work: &[u32]) -> Check
     ensures { result ≡ verdict (step_tests (areas [] [] [] [] [] work.now)) }
 {
     if work[layout::PHASE_AT] == 0 {
-        return Check::Refuse(Refusal::WrongState);
+        return Err(Refusal::WrongState);
     }
-    Check::Accept
+    Ok(())
 }
 
 // One step of the pass that runs: an object scanned, or a page swept. Answers the object or the number of slots freed.
@@ -47,7 +47,7 @@ pub fn step_apply(
 {
     let pass = pass_record::pass_of(work);
     if pass.phase == layout::MARKING {
-        return Answer::Done(marking::mark_step(copies, work, n, pass));
+        return Ok(marking::mark_step(copies, work, n, pass));
     }
     sweeping::sweep_step(copies, received, log, counts, work, n, pass)
 }

@@ -5,7 +5,8 @@ use mathlib.Core.Path.{◌∙◌}
 use mathlib.Core.List.{List}
 use Rattle.pages.specs.Geometry as geometry
 use Rattle.reach.specs.Reaching.{Reached, root, next, Whole, reached_some}
-use Rattle.reach_walk.specs.Walk.{Walk, Marked, Queued, Consistent, Entry}
+use Rattle.reach_walk.specs.declared.Walk.{Walk}
+use Rattle.reach_walk.specs.Walk.{Marked, Queued, Consistent, Entry}
 use Rattle.reach_walk.proofs.Following.{DoneTo}
 
 -- an object found stands in the queue by its own number

@@ -4,15 +4,21 @@ use native.Mathlib.Omega.{arith}
 use native.Mathlib.Decide.{ℕ_discrete}
 use mathlib.Core.Path.{◌≡◌, sym, ap, ◌∙◌}
 use mathlib.Core.Bool.{false, not}
+use mathlib.Core.List.{List}
 use lib.Dec.{eqb}
 use lib.ListN.{get_or, set, replicate, length-set, length-replicate}
 use lib.Seq.{get_or-set_same, get_or-set_other}
 use borrow.Author.Tests.{ne_eqb}
 use Rattle.words.specs.Tests.{clash}
 use Rattle.pages.specs.Geometry.{object_count}
-use Rattle.reach_walk.specs.Walk.{Walk, walk, mark, Marked, Consistent, Grown}
+use Rattle.reach_walk.specs.declared.Walk.{Walk}
+use Rattle.reach_walk.specs.Walk.{mark, Marked, Consistent, Grown}
 use Rattle.words.specs.Spans.{zero_at}
 use Rattle.words.specs.Counts.{count_none, count_most, count_less, count_more}
+
+-- a walk by its parts
+abbrev pub walk : List ℕ → List ℕ → ℕ → Walk
+walk m q t = record { marks = m; queue = q; tail = t }
 
 -- nothing is marked at the start
 pub start : (E : ℕ → Type 0) (n k : ℕ) → object_count n ≤ k → Consistent E n (walk (replicate k 0) (replicate k 0) 0)

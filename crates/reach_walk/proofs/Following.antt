@@ -9,7 +9,8 @@ use lib.ListN.{get_or}
 use Rattle.words.specs.Tests.{clash}
 use Rattle.pages.specs.Geometry.{slot_words, is_ref}
 use Rattle.pages.specs.Objects.{word_of}
-use Rattle.reach_walk.specs.Walk.{Walk, Marked, Consistent, Grown, Followed, FollowedTo}
+use Rattle.reach_walk.specs.declared.Walk.{Walk}
+use Rattle.reach_walk.specs.Walk.{Marked, Consistent, Grown, Followed, FollowedTo}
 
 -- what was found stays found
 pub grown_none : (w : Walk) → Grown w w

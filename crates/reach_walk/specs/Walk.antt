@@ -1,22 +1,11 @@
 -- A walk over the references of a page area: what its marks and its queue stand for, and what a step does. Assumes nothing.
-use Rattle.std.specs.Prelude.{ℕ, ◌+◌, ◌*◌, ◌-◌, ◌<◌, ◌≤◌, ◌≡◌, Bool, true, not, List, length, get_or, eqb}
+use Rattle.std.specs.Prelude.{ℕ, ◌+◌, ◌*◌, ◌-◌, ◌<◌, ◌≤◌, ◌≡◌, Bool, true, not, List, length, get_or, eqb, Option, Some, None}
 use Rattle.words.specs.Tests.{count}
 use Rattle.pages.specs.Geometry.{page_words, max_pages, object_count}
 use Rattle.pages.specs.Objects.{occupied}
 use Rattle.reach.specs.Reaching.{Refers, Reached}
-use Rattle.reach_walk.specs.declared.Step.{Step}
-use Rattle.reach_walk.specs.declared.Step.TheVariants.{Tail, Dangling}
 use Rattle.reach_walk.specs.Wholeness.{Dangles}
-
--- the objects found: a mark for each, at its number less 1, and a queue of them, which ends at tail
-pub record Walk : Type 0 where
-  pub marks : List ℕ
-  pub queue : List ℕ
-  pub tail : ℕ
-
--- the same, by its parts
-abbrev pub walk : List ℕ → List ℕ → ℕ → Walk
-walk m q t = record { marks = m; queue = q; tail = t }
+use Rattle.reach_walk.specs.declared.Walk.{Walk}
 
 -- a mark is a word other than 0
 abbrev pub mark : Walk → ℕ → Bool
@@ -65,7 +54,7 @@ Followed a w o f = (x : ℕ) → Refers a o f x → Marked w x
 abbrev pub FollowedTo : List ℕ → Walk → ℕ → ℕ → Type 0
 FollowedTo a w o k = (f : ℕ) → f < k → Followed a w o f
 
--- what a step from walk w comes to: marks m and a queue q that make a walk which has grown and of which G holds; or something dangles
-abbrev pub Outcome : List ℕ → ℕ → Walk → List ℕ → List ℕ → (Walk → Type 0) → Step → Type 0
-Outcome a n w m q G (Tail t) = Consistent (Entry a) n (walk m q t) × Grown w (walk m q t) × G (walk m q t)
-Outcome a n w m q G Dangling = Dangles a
+-- what a step from walk w comes to: a walk v which has grown and of which G holds; or something dangles
+abbrev pub Outcome : List ℕ → ℕ → Walk → Walk → (Walk → Type 0) → Option (Unit {0}) → Type 0
+Outcome a n w v G (Some u) = Consistent (Entry a) n v × Grown w v × G v
+Outcome a n w v G None = Dangles a

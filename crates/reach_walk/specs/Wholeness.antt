@@ -1,12 +1,11 @@
 -- What is answered of one page area, whatever its words are. Assumes nothing.
-use Rattle.std.specs.Prelude.{ℕ, ◌≡◌, Bool, true, false, List, length}
+use Rattle.std.specs.Prelude.{ℕ, ◌≡◌, Bool, true, false, List, length, Ok, Err}
 use Rattle.pages.specs.Geometry.{page_words, max_pages}
 use Rattle.pages.specs.Objects.{occupied}
 use Rattle.areas.specs.Ranges.{whole}
 use Rattle.areas.specs.declared.Refusal.TheVariants.{Malformed}
-use Rattle.areas.specs.declared.Answer.{Answer}
-use Rattle.areas.specs.declared.Answer.TheVariants.{Done, Refused}
 use Rattle.reach.specs.Reaching.{Reached, Whole}
+use Rattle.areas.specs.Answers.{Answer}
 
 -- 'a length that gives no whole number in bounds counts as differing': a page area by itself
 abbrev pub area_fits : List ℕ → Bool
@@ -20,6 +19,6 @@ pub record Dangles (a : List ℕ) : Type 0 where
 
 -- the answer about page area a: refused where its length does not fit; else 1 where whatever the root reaches is occupied, 0 where not
 pub data WholeAnswer (a : List ℕ) : Answer → Type 0 where
-  malformed : area_fits a ≡ false → WholeAnswer a (Refused Malformed)
-  all_occupied : area_fits a ≡ true → Whole a → WholeAnswer a (Done 1)
-  dangling : area_fits a ≡ true → Dangles a → WholeAnswer a (Done 0)
+  malformed : area_fits a ≡ false → WholeAnswer a (Err Malformed)
+  all_occupied : area_fits a ≡ true → Whole a → WholeAnswer a (Ok 1)
+  dangling : area_fits a ≡ true → Dangles a → WholeAnswer a (Ok 0)

@@ -85,7 +85,7 @@ fn new_sound(r: Record, n: usize) -> bool
     r.new == 0
 }
 
-// Whether word w of a record is sound.
+// Whether word w of a record is sound: by number, for the scan over records and their six words (docs/DECISIONS.md, 47).
 pub fn word_sound(r: Record, n: usize, w: usize) -> bool
     requires { n ≤ max_pages }
     ensures { result ≡ word_sound n r w }

@@ -13,6 +13,7 @@ use Rattle.words.specs.Bits.{bit, bit_low}
 use Rattle.pages.specs.Geometry.{slot_words, ref_words, map_top, max_pages, object_count, root}
 use Rattle.page_laws.specs.BitLaws.{or_none, or_le_r}
 use Rattle.records.specs.declared.Record.{Record}
+use Rattle.record_ranges.specs.declared.Row.{Row}
 use Rattle.records.specs.Records.{record_words, txn_count, record_at, made}
 use Rattle.records.specs.Soundness.{word_sound, record_sound, records_sound}
 use Rattle.record_laws.specs.RecordLaws.{records_sound_next}
@@ -38,23 +39,22 @@ sixteen a b c d e f g h i j k l m n o p = a ∷ b ∷ c ∷ d ∷ e ∷ f ∷ g 
 abbrev pub row_of : Record → ℕ
 row_of r = r.kind % kind_rows + kind_rows * (r.field / ref_words % 2)
 
--- 'a record's transaction, object, page or field out of range; an unused word not 0': by row, the least values of the object, the
--- field, the old and the new word
-abbrev pub lows : List (List ℕ)
-lows =
-    let none = four 0 ref_words 0 0 in let end = four 0 0 0 0 in let make = four (root + 1) 0 0 0 in let set = four root 0 0 0 in
-    sixteen none end make set end end make end end end make set end end make end
+-- a row: the least values of the object, the field, the old and the new word; how far the values may lie above the least; the bits that
+-- the transaction must not have
+abbrev row : List ℕ → List ℕ → ℕ → Row
+row l s t = record { low = l; span = s; barred = t }
 
--- how far the values may lie above the least
-abbrev pub spans : ℕ → List (List ℕ)
-spans n =
-    let end = four 0 0 0 0 in let make = four (object_count n - (root + 1)) 0 0 0 in let set = four (object_count n - root) (slot_words - 1) (object_count n) (object_count n) in
-    let word = four (object_count n - root) (slot_words - 1) ones ones in let sweep = four (n - 1) 0 0 map_top in
-    sixteen end end make set end end make sweep end end make word end end make sweep
-
--- the bits that the transaction must not have
-abbrev pub barred : List ℕ
-barred = let t = ones - (txn_count - 1) in sixteen t t t t t t t ones t t t t t t t ones
+-- 'a record's transaction, object, page or field out of range; an unused word not 0', by row
+abbrev pub rows : ℕ → List Row
+rows n =
+    let t = ones - (txn_count - 1) in
+    let none = row (four 0 ref_words 0 0) (four 0 0 0 0) t in
+    let end = row (four 0 0 0 0) (four 0 0 0 0) t in
+    let make = row (four (root + 1) 0 0 0) (four (object_count n - (root + 1)) 0 0 0) t in
+    let set = row (four root 0 0 0) (four (object_count n - root) (slot_words - 1) (object_count n) (object_count n)) t in
+    let word = row (four root 0 0 0) (four (object_count n - root) (slot_words - 1) ones ones) t in
+    let sweep = row (four 0 0 0 0) (four (n - 1) 0 0 map_top) ones in
+    sixteen none end make set end end make sweep end end make word end end make sweep
 
 -- x lies from low to span above it: their difference wraps where x is below low
 abbrev pub inside : ℕ → ℕ → ℕ → Bool
@@ -64,15 +64,14 @@ inside x low span = nat_le (if (nat_le low x) (x - low) (x + (word_size - low)))
 abbrev pub strayless : Record → ℕ → Bool
 strayless r bits = bit_and r.txn bits == 0 && not (r.object == 0 && bit r.new 0)
 
--- a record held to row i of such tables
-unfoldable pub row_test : Record → List (List ℕ) → List (List ℕ) → List ℕ → ℕ → Bool
-row_test r low span bits i =
-    nat_lt r.kind kind_rows && inside r.object (slice_index (slice_index_or low i []) 0) (slice_index (slice_index_or span i []) 0) && inside r.field (slice_index (slice_index_or low i []) 1) (slice_index (slice_index_or span i []) 1)
-    && inside r.old (slice_index (slice_index_or low i []) 2) (slice_index (slice_index_or span i []) 2) && inside r.new (slice_index (slice_index_or low i []) 3) (slice_index (slice_index_or span i []) 3)
-    && strayless r (slice_index bits i)
+-- a record held to a row
+unfoldable pub row_test : Record → Row → Bool
+row_test r w =
+    nat_lt r.kind kind_rows && inside r.object (slice_index w.low 0) (slice_index w.span 0) && inside r.field (slice_index w.low 1) (slice_index w.span 1)
+    && inside r.old (slice_index w.low 2) (slice_index w.span 2) && inside r.new (slice_index w.low 3) (slice_index w.span 3) && strayless r w.barred
 
 abbrev pub row_sound : ℕ → Record → ℕ → Bool
-row_sound n r i = row_test r lows (spans n) barred i
+row_sound n r i = row_test r (slice_index_or (rows n) i (row [] [] 0))
 
 -- nothing was found: the kinds together, and five words
 unfoldable pub clean : ℕ → ℕ → ℕ → ℕ → ℕ → ℕ → Bool
@@ -130,16 +129,16 @@ pub clean_none : (n : ℕ) (g : List ℕ) → clean 0 0 0 0 0 0 ≡ records_soun
 unfolding all records_sound clean
 clean_none n g = refl
 
-pub clean_next : (n : ℕ) (g : List ℕ) (i kinds f0 f1 f2 f3 f4 g0 g1 g2 g3 g4 : ℕ) (r : Record) (low span : List (List ℕ)) (bits : List ℕ) (k : ℕ)
-    → r ≡ record_at g i → clean kinds f0 f1 f2 f3 f4 ≡ records_sound n g i → row_test r low span bits k ≡ record_sound n r
-    → ((g0 == 0) ≡ (f0 == 0) && inside r.object (slice_index (slice_index_or low k []) 0) (slice_index (slice_index_or span k []) 0))
-    × ((g1 == 0) ≡ (f1 == 0) && inside r.field (slice_index (slice_index_or low k []) 1) (slice_index (slice_index_or span k []) 1))
-    × ((g2 == 0) ≡ (f2 == 0) && inside r.old (slice_index (slice_index_or low k []) 2) (slice_index (slice_index_or span k []) 2))
-    × ((g3 == 0) ≡ (f3 == 0) && inside r.new (slice_index (slice_index_or low k []) 3) (slice_index (slice_index_or span k []) 3))
-    × ((g4 == 0) ≡ (f4 == 0) && strayless r (slice_index bits k))
+pub clean_next : (n : ℕ) (g : List ℕ) (i kinds f0 f1 f2 f3 f4 g0 g1 g2 g3 g4 : ℕ) (r : Record) (w : Row)
+    → r ≡ record_at g i → clean kinds f0 f1 f2 f3 f4 ≡ records_sound n g i → row_test r w ≡ record_sound n r
+    → ((g0 == 0) ≡ (f0 == 0) && inside r.object (slice_index w.low 0) (slice_index w.span 0))
+    × ((g1 == 0) ≡ (f1 == 0) && inside r.field (slice_index w.low 1) (slice_index w.span 1))
+    × ((g2 == 0) ≡ (f2 == 0) && inside r.old (slice_index w.low 2) (slice_index w.span 2))
+    × ((g3 == 0) ≡ (f3 == 0) && inside r.new (slice_index w.low 3) (slice_index w.span 3))
+    × ((g4 == 0) ≡ (f4 == 0) && strayless r w.barred)
     → clean (bit_or kinds r.kind) g0 g1 g2 g3 g4 ≡ records_sound n g (i + 1)
 unfolding row_test clean
-clean_next n g i kinds f0 f1 f2 f3 f4 g0 g1 g2 g3 g4 r low span bits k h c s e =
+clean_next n g i kinds f0 f1 f2 f3 f4 g0 g1 g2 g3 g4 r w h c s e =
     and_cong (and_cong (and_cong (and_cong (and_cong (or_below kinds r.kind) e.0) e.1) e.2) e.3) e.4
     ∙ six_pairs (nat_lt kinds kind_rows) (f0 == 0) (f1 == 0) (f2 == 0) (f3 == 0) (f4 == 0) _ _ _ _ _ _
     ∙ and_cong c (s ∙ ap (record_sound n) h)
@@ -300,25 +299,25 @@ module _ (n t o f a b : ℕ) (w : Words n t a b) where
       above : (x : ℕ) → f < slot_words → nat_le ref_words f || nat_le x (object_count n) ≡ true
       above x l = rw (le-leb ref_words f (omega arith))
 
-  rows : (k : ℕ) → (f / ref_words % 2 ≡ 0 → row_sound n (made k t o f a b) (k + kind_rows * 0) ≡ record_sound n (made k t o f a b))
+  by_digit : (k : ℕ) → (f / ref_words % 2 ≡ 0 → row_sound n (made k t o f a b) (k + kind_rows * 0) ≡ record_sound n (made k t o f a b))
       → (f / ref_words % 2 ≡ 1 → row_sound n (made k t o f a b) (k + kind_rows * 1) ≡ record_sound n (made k t o f a b))
       → row_sound n (made k t o f a b) (k + kind_rows * (f / ref_words % 2)) ≡ record_sound n (made k t o f a b)
-  rows k p q = at_digit (λ d. row_sound n (made k t o f a b) (k + kind_rows * d) ≡ record_sound n (made k t o f a b)) (f / ref_words % 2) (omega arith) p q
+  by_digit k p q = at_digit (λ d. row_sound n (made k t o f a b) (k + kind_rows * d) ≡ record_sound n (made k t o f a b)) (f / ref_words % 2) (omega arith) p q
 
   pub by_kind : (k : ℕ) → row_sound n (made k t o f a b) (k % kind_rows + kind_rows * (f / ref_words % 2)) ≡ record_sound n (made k t o f a b)
   unfolding all row_test word_sound record_sound
-  by_kind zero = rows 0
+  by_kind zero = by_digit 0
       (λ e. second_false (inside o 0 0) (inside f ref_words 0) (inside a 0 0) (inside b 0 0) _ (no_field f e))
       (λ e. second_false (inside o 0 0) (inside f 0 0) (inside a 0 0) (inside b 0 0) _ (no_zero f e))
-  by_kind (suc zero) = rows 1 (λ e. end_row) (λ e. end_row)
-  by_kind (suc (suc zero)) = rows 2 (λ e. make_row) (λ e. make_row)
-  by_kind (suc (suc (suc zero))) = rows 3 set_row word_row
-  by_kind (suc (suc (suc (suc zero)))) = rows 4 (λ e. end_row) (λ e. end_row)
-  by_kind (suc (suc (suc (suc (suc zero))))) = rows 5 (λ e. end_row) (λ e. end_row)
-  by_kind (suc (suc (suc (suc (suc (suc zero)))))) = rows 6 (λ e. make_row) (λ e. make_row)
-  by_kind (suc (suc (suc (suc (suc (suc (suc zero))))))) = rows 7 (λ e. sweep_row) (λ e. sweep_row)
+  by_kind (suc zero) = by_digit 1 (λ e. end_row) (λ e. end_row)
+  by_kind (suc (suc zero)) = by_digit 2 (λ e. make_row) (λ e. make_row)
+  by_kind (suc (suc (suc zero))) = by_digit 3 set_row word_row
+  by_kind (suc (suc (suc (suc zero)))) = by_digit 4 (λ e. end_row) (λ e. end_row)
+  by_kind (suc (suc (suc (suc (suc zero))))) = by_digit 5 (λ e. end_row) (λ e. end_row)
+  by_kind (suc (suc (suc (suc (suc (suc zero)))))) = by_digit 6 (λ e. make_row) (λ e. make_row)
+  by_kind (suc (suc (suc (suc (suc (suc (suc zero))))))) = by_digit 7 (λ e. sweep_row) (λ e. sweep_row)
   by_kind (suc (suc (suc (suc (suc (suc (suc (suc k)))))))) = let h : kind_rows ≤ suc (suc (suc (suc (suc (suc (suc (suc k))))))) = omega arith in unknown n (_ % kind_rows + kind_rows * (f / ref_words % 2)) (made _ t o f a b) h
 
-pub rows_sound : (n : ℕ) (r : Record) (low span : List (List ℕ)) (bits : List ℕ) (k : ℕ) → Words n r.txn r.old r.new
-    → low ≡ lows → span ≡ spans n → bits ≡ barred → k ≡ row_of r → row_test r low span bits k ≡ record_sound n r
-rows_sound n r low span bits k w e f g h = rw (e, f, g, h) (by_kind n r.txn r.object r.field r.old r.new w r.kind)
+pub rows_sound : (n : ℕ) (r : Record) (l : List Row) (k : ℕ) → Words n r.txn r.old r.new → l ≡ rows n → k ≡ row_of r
+    → row_test r (slice_index_or l k (row [] [] 0)) ≡ record_sound n r
+rows_sound n r l k w e h = rw (e, h) (by_kind n r.txn r.object r.field r.old r.new w r.kind)

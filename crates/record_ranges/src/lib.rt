@@ -37,41 +37,51 @@ fn row_of(r: Record) -> usize
     (r.kind % KINDS + KINDS * (r.field / REF_WORDS % 2)) as usize
 }
 
-// By row, the least values. Row 0 is no kind's: it wants a field that the row does not have.
-fn lows() -> [[u32; RANGES]; ROWS]
-    ensures { result ≡ spec.lows }
-{
-    let none = [0u32, REF_WORDS, 0, 0];
-    let end = [0u32, 0, 0, 0];
-    let make = [pages::ROOT + 1, 0, 0, 0];
-    let set = [pages::ROOT, 0, 0, 0];
-    [
-        none, end, make, set, end, end, make, end, end, end, make, set, end, end, make, end,
-    ]
+// What a record of a row may have: its words from a least value up, each within a span, and a transaction without the barred bits.
+#[derive(Clone, Copy)]
+struct Row {
+    low: [u32; RANGES],
+    span: [u32; RANGES],
+    barred: u32,
 }
 
-// By row, how far the values may lie above the least. n is the number of pages.
-fn spans(n: u32) -> [[u32; RANGES]; ROWS]
+// The rows, of n pages. Rows 0 and 8 are no kind's: each wants a field that the row does not have.
+fn rows(n: u32) -> [Row; ROWS]
     requires { (1 ≤ n) × (n ≤ max_pages) }
-    ensures { result ≡ spec.spans n }
+    ensures { result ≡ spec.rows n }
 {
     let top = SLOTS * n;
-    let end = [0u32, 0, 0, 0];
-    let make = [top - (pages::ROOT + 1), 0, 0, 0];
-    let set = [top - pages::ROOT, SLOT_WORDS - 1, top, top];
-    let word = [top - pages::ROOT, SLOT_WORDS - 1, ONES, ONES];
-    let sweep = [n - 1, 0, 0, pages::MAP_TOP];
+    let end = Row {
+        low: [0; RANGES],
+        span: [0; RANGES],
+        barred: ONES - (records::TXNS - 1),
+    };
+    let none = Row {
+        low: [0, REF_WORDS, 0, 0],
+        ..end
+    };
+    let make = Row {
+        low: [pages::ROOT + 1, 0, 0, 0],
+        span: [top - (pages::ROOT + 1), 0, 0, 0],
+        ..end
+    };
+    let set = Row {
+        low: [pages::ROOT, 0, 0, 0],
+        span: [top - pages::ROOT, SLOT_WORDS - 1, top, top],
+        ..end
+    };
+    let word = Row {
+        span: [top - pages::ROOT, SLOT_WORDS - 1, ONES, ONES],
+        ..set
+    };
+    let sweep = Row {
+        span: [n - 1, 0, 0, pages::MAP_TOP],
+        barred: ONES,
+        ..end
+    };
     [
-        end, end, make, set, end, end, make, sweep, end, end, make, word, end, end, make, sweep,
+        none, end, make, set, end, end, make, sweep, end, end, make, word, end, end, make, sweep,
     ]
-}
-
-// By row, the bits that the transaction must not have: a sweep has none.
-fn barred_bits() -> [u32; ROWS]
-    ensures { result ≡ spec.barred }
-{
-    let t = ONES - (records::TXNS - 1);
-    [t, t, t, t, t, t, t, ONES, t, t, t, t, t, t, t, ONES]
 }
 
 // What was found before, and whether x lies outside its range.
@@ -93,9 +103,7 @@ pub fn records_sound(log: &[u32], n: usize, c: usize) -> bool
     requires { (record_words * c ≤ length log.now) × (1 ≤ n) × (n ≤ max_pages) }
     ensures { result ≡ records_sound n log.now c }
 {
-    let low = lows();
-    let span = spans(n as u32);
-    let barred = barred_bits();
+    let rows = rows(n as u32);
     let mut f0: u32 = 0;
     let mut f1: u32 = 0;
     let mut f2: u32 = 0;
@@ -104,12 +112,12 @@ pub fn records_sound(log: &[u32], n: usize, c: usize) -> bool
     let mut kinds: u32 = 0;
     for i in 0..c {
         let r = log_reader::record_at(log, i);
-        let k = row_of(r);
-        f0 = outside(f0, r.object, low[k][0], span[k][0]);
-        f1 = outside(f1, r.field, low[k][1], span[k][1]);
-        f2 = outside(f2, r.old, low[k][2], span[k][2]);
-        f3 = outside(f3, r.new, low[k][3], span[k][3]);
-        f4 = strays(f4, r, barred[k]);
+        let row = &rows[row_of(r)];
+        f0 = outside(f0, r.object, row.low[0], row.span[0]);
+        f1 = outside(f1, r.field, row.low[1], row.span[1]);
+        f2 = outside(f2, r.old, row.low[2], row.span[2]);
+        f3 = outside(f3, r.new, row.low[3], row.span[3]);
+        f4 = strays(f4, r, row.barred);
         kinds = kinds | r.kind;
     }
     (kinds < KINDS) & ((f0 | f1 | f2 | f3 | f4) == 0)

@@ -1,4 +1,3 @@
 -- Reopening and its steps, as the code makes them.
-pub mod Rooms
 pub mod Steps
 pub mod Reopens

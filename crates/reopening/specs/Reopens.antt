@@ -1,5 +1,5 @@
 -- Reopening, by the tests in the code. Assumes nothing.
-use Rattle.std.specs.Prelude.{ℕ, ◌*◌, ◌≤◌, ◌≡◌, Bool, true, false, ◌&&◌, List, length, get_or, set, replicate, leb}
+use Rattle.std.specs.Prelude.{ℕ, ◌*◌, ◌≤◌, ◌≡◌, Bool, true, false, ◌&&◌, List, length, get_or, set, replicate, leb, Ok, Err}
 use Rattle.std.proofs.Math.Path.{refl}
 use Rattle.std.proofs.Common.{sym, ◌∙◌, arith, leb-true}
 use Rattle.words.specs.Tests.{if, if_t, if_f, all, clash, and_split}
@@ -11,14 +11,11 @@ use Rattle.records.specs.Recovery.{recovered, recoverable}
 use Rattle.record_laws.specs.RecordLaws.{log_sound_records}
 use Rattle.areas.specs.declared.Refusal.{Refusal}
 use Rattle.areas.specs.declared.Refusal.TheVariants.{Malformed, Unsound}
-use Rattle.areas.specs.declared.Answer.{Answer}
-use Rattle.areas.specs.declared.Answer.TheVariants.{Done, Refused}
-use Rattle.areas.specs.Answers.{all_passed, need_holds, need_fails}
+use Rattle.areas.specs.Answers.{all_passed, need_holds, need_fails, Answer}
 use Rattle.areas.specs.Areas.{areas, out, checked_pass, checked_refuse}
 use Rattle.areas.specs.Layout.{reopening_at, running}
 use Rattle.areas.specs.Ranges.{pages_in, records_in, fit}
 use Rattle.calls.specs.Reopening.{reopen_tests, reopened, call_reopen}
-use Rattle.log_replay.specs.declared.Scan.TheVariants.{Open, Refuse}
 use Rattle.log_replay.specs.Reading.{found_of, found_sound, found_unsound}
 
 -- 'a free slot that is not zero' after the undoing is unsound: stored pages a, n of them, and the first c records of g
@@ -34,7 +31,7 @@ pub record Found (a g : List ℕ) (c m : ℕ) : Type 0 where
   pub sound : records_sound (pages_in (length a)) g c ≡ true
   pub left : m ≡ open_in g c
 
-pub found : (a g : List ℕ) (c m : ℕ) → found_of (pages_in (length a)) (records_in (length g)) a g c ≡ Open m → Found a g c m
+pub found : (a g : List ℕ) (c m : ℕ) → found_of (pages_in (length a)) (records_in (length g)) a g c ≡ Ok m → Found a g c m
 found a g c m h =
     let f = found_sound _ _ a g c m h in
     let p = and_split (leb c (records_in (length g)) && area_sound a (pages_in (length a))) (log_sound (pages_in (length a)) g c) f.0 in
@@ -64,29 +61,29 @@ same_areas : {s c c' r r' g k k' w w' : List ℕ} (a : Answer) → c ≡ c' → 
 same_areas a ec er ek ew = cc
 
 module _ (s c r g k w : List ℕ) where
-  pub reopen_malformed : fit (areas s c r g k w) ≡ false → out (Refused Malformed) s c r g k w ≡ call_reopen (areas s c r g k w)
+  pub reopen_malformed : fit (areas s c r g k w) ≡ false → out (Err Malformed) s c r g k w ≡ call_reopen (areas s c r g k w)
   unfolding call_reopen reopen_tests
   reopen_malformed h = checked_refuse _ _ _ _ (sym (need_fails _ _ _ _ h))
 
   module _ (h : fit (areas s c r g k w) ≡ true) where
     -- refusal 14 of the count, the stored pages or the records
-    pub reopen_unsound : (x : Refusal) → found_of (pages_in (length s)) (records_in (length g)) s g (get_or k 1 0) ≡ Refuse x
-        → out (Refused x) s c r g k w ≡ call_reopen (areas s c r g k w)
+    pub reopen_unsound : (x : Refusal) → found_of (pages_in (length s)) (records_in (length g)) s g (get_or k 1 0) ≡ Err x
+        → out (Err x) s c r g k w ≡ call_reopen (areas s c r g k w)
     unfolding call_reopen reopen_tests recoverable
     reopen_unsound x e = let f = found_unsound _ _ s g (get_or k 1 0) x e in
         rw f.1 (checked_refuse _ _ _ _ (sym (need_fails _ _ _ _ (stable_bad (leb (get_or k 1 0) (records_in (length g))) (area_sound s (pages_in (length s))) (log_sound (pages_in (length s)) g (get_or k 1 0)) _ f.0) ∙ need_holds _ _ _ _ h)))
 
     -- b: the code's answer on the free slots, c' and r': copies and received pages after it
-    module _ (m : ℕ) (e : found_of (pages_in (length s)) (records_in (length g)) s g (get_or k 1 0) ≡ Open m) {b : Bool} {c' r' : List ℕ}
+    module _ (m : ℕ) (e : found_of (pages_in (length s)) (records_in (length g)) s g (get_or k 1 0) ≡ Ok m) {b : Bool} {c' r' : List ℕ}
         (eb : b ≡ free_after s g (pages_in (length s)) (get_or k 1 0))
         (ec : c' ≡ if b (recovered s g (get_or k 1 0)) c) (er : r' ≡ if b (recovered s g (get_or k 1 0)) r) where
-      pub reopen_unfree : b ≡ false → out (Refused Unsound) s c' r' g k w ≡ call_reopen (areas s c r g k w)
+      pub reopen_unfree : b ≡ false → out (Err Unsound) s c' r' g k w ≡ call_reopen (areas s c r g k w)
       unfolding call_reopen reopen_tests recoverable
       reopen_unfree f = let o = found s g (get_or k 1 0) m e in
-          same_areas (Refused Unsound) (stays _ _ c f ec) (stays _ _ r f er) refl refl ∙ checked_refuse _ _ _ _ (sym (need_fails _ _ _ _ (then_free _ _ _ _ _ o.count o.area o.log (sym eb ∙ f)) ∙ need_holds _ _ _ _ h))
+          same_areas (Err Unsound) (stays _ _ c f ec) (stays _ _ r f er) refl refl ∙ checked_refuse _ _ _ _ (sym (need_fails _ _ _ _ (then_free _ _ _ _ _ o.count o.area o.log (sym eb ∙ f)) ∙ need_holds _ _ _ _ h))
 
       pub reopen_done : {k' w' : List ℕ} → b ≡ true → k' ≡ set k 0 (get_or k 1 0) → w' ≡ set (replicate (length w) 0) reopening_at running
-          → out (Done 0) s c' r' g k' w' ≡ call_reopen (areas s c r g k w)
+          → out (Ok 0) s c' r' g k' w' ≡ call_reopen (areas s c r g k w)
       unfolding call_reopen reopen_tests reopened recoverable
       reopen_done f ek ew = let o = found s g (get_or k 1 0) m e in
-          same_areas (Done 0) (becomes _ _ c f ec) (becomes _ _ r f er) ek ew ∙ checked_pass _ _ _ (sym (all_passed ∙ need_holds _ _ _ _ (then_free _ _ _ _ _ o.count o.area o.log (sym eb ∙ f)) ∙ need_holds _ _ _ _ h))
+          same_areas (Ok 0) (becomes _ _ c f ec) (becomes _ _ r f er) ek ew ∙ checked_pass _ _ _ (sym (all_passed ∙ need_holds _ _ _ _ (then_free _ _ _ _ _ o.count o.area o.log (sym eb ∙ f)) ∙ need_holds _ _ _ _ h))

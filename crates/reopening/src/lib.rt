@@ -50,7 +50,33 @@ fn recover_in(
     true
 }
 
-// The same, with room of its own.
+// The same, with room of its own, of ROOM words: it is cleared first, so that no more of it is taken than the store needs.
+fn recover_within<const ROOM: usize>(
+    stored: &[u32],
+    copies: &mut [u32],
+    received: &mut [u32],
+    log: &[u32],
+    n: usize,
+    c: usize,
+    m: u32,
+) -> bool
+    requires { (length stored.now ≤ ROOM) × (ROOM ≤ max_pages * page_words) × (length copies.old ≡ length stored.now) × (length received.old ≡ length stored.now) × (length stored.now ≡ page_words * n) × (record_words * c ≤ length log.now) × (records_sound n log.now c ≡ true) × (m ≡ open_in log.now c) }
+    ensures { (result ≡ free_after stored.now log.now n c) × (copies.new ≡ if result (recovered stored.now log.now c) copies.old) × (received.new ≡ if result (recovered stored.now log.now c) received.old) }
+{
+    let mut room = [0u32; ROOM];
+    recover_in(
+        stored,
+        copies,
+        received,
+        log,
+        &mut room[..stored.len()],
+        n,
+        c,
+        m,
+    )
+}
+
+// The same, with room as small as the store allows.
 pub fn recover_both(
     stored: &[u32],
     copies: &mut [u32],
@@ -64,18 +90,12 @@ pub fn recover_both(
     ensures { (result ≡ free_after stored.now log.now n c) × (copies.new ≡ if result (recovered stored.now log.now c) copies.old) × (received.new ≡ if result (recovered stored.now log.now c) received.old) }
 {
     if stored.len() <= SMALL_WORDS {
-        let mut small = [0u32; SMALL_WORDS];
-        let room = &mut small[..stored.len()];
-        return recover_in(stored, copies, received, log, room, n, c, m);
+        return recover_within::<SMALL_WORDS>(stored, copies, received, log, n, c, m);
     }
     if stored.len() <= MIDDLE_WORDS {
-        let mut middle = [0u32; MIDDLE_WORDS];
-        let room = &mut middle[..stored.len()];
-        return recover_in(stored, copies, received, log, room, n, c, m);
+        return recover_within::<MIDDLE_WORDS>(stored, copies, received, log, n, c, m);
     }
-    let mut large = [0u32; LARGE_WORDS];
-    let room = &mut large[..stored.len()];
-    recover_in(stored, copies, received, log, room, n, c, m)
+    recover_within::<LARGE_WORDS>(stored, copies, received, log, n, c, m)
 }
 
 // Refusal 4 of a reopening step: none is running.
@@ -84,9 +104,9 @@ pub fn restep_check(work: &[u32]) -> Check
     ensures { result ≡ verdict (restep_tests (areas [] [] [] [] [] work.now)) }
 {
     if work[layout::REOPENING_AT] == layout::RUNNING {
-        return Check::Accept;
+        return Ok(());
     }
-    Check::Refuse(Refusal::WrongState)
+    Err(Refusal::WrongState)
 }
 
 // Page p is stored, and the next one's turn comes.

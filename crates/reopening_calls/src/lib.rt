@@ -7,7 +7,6 @@ ghost use Rattle.areas.specs.Entry.{well_formed};
 ghost use Rattle.calls.specs.Reopening.{call_reopen, call_restep};
 
 use areas::{Answer, Check, Refusal, layout};
-use log_replay::Scan;
 use pages::PAGE_WORDS;
 use records::RECORD_WORDS;
 
@@ -31,21 +30,16 @@ pub fn reopen(
         counts.len(),
         work.len(),
     ) {
-        return Answer::Refused(Refusal::Malformed);
+        return Err(Refusal::Malformed);
     }
     let n = stored.len() / PAGE_WORDS;
     let stable = counts[layout::STABLE] as usize;
-    let s = log_replay::find_open(stored, log, n, log.len() / RECORD_WORDS, stable);
-    match s {
-        Scan::Refuse(x) => Answer::Refused(x),
-        Scan::Open(m) => {
-            if !reopening::recover_both(stored, copies, received, log, n, stable, m) {
-                return Answer::Refused(Refusal::Unsound);
-            }
-            log_replay::restart(counts, work);
-            Answer::Done(0)
-        }
+    let still_open = log_replay::find_open(stored, log, n, log.len() / RECORD_WORDS, stable)?;
+    if !reopening::recover_both(stored, copies, received, log, n, stable, still_open) {
+        return Err(Refusal::Unsound);
     }
+    log_replay::restart(counts, work);
+    Ok(0)
 }
 
 // One reopening step: stores the next page, or, after the last, empties the log and ends the reopening. A store that is known to be
@@ -61,23 +55,19 @@ pub fn held_restep(
     requires { well_formed true (areas stored.old copies.now received.now log.now counts.old work.old) ≡ true }
     ensures { out result stored.new copies.now received.now log.now counts.new work.new ≡ call_restep (areas stored.old copies.now received.now log.now counts.old work.old) }
 {
-    let k = reopening::restep_check(work);
-    match k {
-        Check::Refuse(x) => Answer::Refused(x),
-        Check::Accept => {
-            let p = work[layout::REOPENING_PAGE_AT];
-            let n = stored.len() / PAGE_WORDS;
-            if (p as usize) < n {
-                reopening::store_next(stored, copies, work, p);
-                return Answer::Done(p);
-            }
-            reopening::finish(counts, work, n, log.len() / RECORD_WORDS);
-            Answer::Done(p)
-        }
+    reopening::restep_check(work)?;
+    let p = work[layout::REOPENING_PAGE_AT];
+    let n = stored.len() / PAGE_WORDS;
+    if (p as usize) < n {
+        reopening::store_next(stored, copies, work, p);
+        return Ok(p);
     }
+    reopening::finish(counts, work, n, log.len() / RECORD_WORDS);
+    Ok(p)
 }
 
 // One reopening step: stores the next page, or, after the last, empties the log and ends the reopening.
+#[tactic(auto, using(areas::specs::Entry::called_malformed), unfolding(calls::specs::Reopening::call_restep))]
 pub fn restep(
     stored: &mut [u32],
     copies: &[u32],
@@ -89,7 +79,7 @@ pub fn restep(
     ensures { out result stored.new copies.now received.now log.now counts.new work.new ≡ call_restep (areas stored.old copies.now received.now log.now counts.old work.old) }
 {
     if !entry::well_formed(stored, copies, received, log, counts, work, true) {
-        return Answer::Refused(Refusal::Malformed);
+        return Err(Refusal::Malformed);
     }
     held_restep(stored, copies, received, log, counts, work)
 }

@@ -9,16 +9,22 @@ ghost use Rattle.records.specs.Changes.{noted, changes_left, reserved};
 ghost use Rattle.reserves.specs.Reserves.{Walkable, sought_next, Found};
 
 use bit_ops::bits;
-use log_turns::Turn;
 use records::Record;
 
 const TXNS: usize = records::TXNS as usize;
 
-// What a walk down the log leaves: the transactions whose last begin was not met, and by transaction how many of its changes were.
+// What a walk down the log counts of a transaction: the changes met that are left, and how many further down are undone.
+#[derive(Clone, Copy)]
+struct Counted {
+    left: u32,
+    undone: u32,
+}
+
+// What a walk down the log leaves: the transactions whose last begin was not met, and what it counted of each transaction.
 #[derive(Clone, Copy)]
 struct Walk {
     sought: u32,
-    changes: [u32; TXNS],
+    counted: [Counted; TXNS],
 }
 
 // The transactions still sought below record r: the first begin on the way down is its transaction's last.
@@ -38,31 +44,28 @@ fn sought_next(sought: u32, r: Record) -> u32
 // words from word `from` only those of records that count are read.
 fn walk_down(log: &[u32], work: &[u32], from: usize, c: usize, mask: u32) -> Walk
     requires { Walkable log.now work.now from c }
-    ensures { Found (noted work.now from) log.now mask c result.sought result.changes }
+    ensures { Found (noted work.now from) log.now mask c result.sought result.counted }
 {
     let mut sought = mask;
-    let mut changes = [0u32; TXNS];
-    let mut undone = [0u32; TXNS];
-    let mut i = c;
-    while 0 < i {
+    let mut counted = [Counted { left: 0, undone: 0 }; TXNS];
+    for i in (0..c).rev() {
         if sought == 0 {
             break;
         }
-        i -= 1;
         let r = log_reader::record_at(log, i);
         let t = r.txn as usize;
         if words::has_bit(sought, t) {
-            let turn = log_turns::turn_at(r, work[from + i], r.txn, undone[t]);
+            let turn = log_turns::turn_at(r, work[from + i], r.txn, counted[t].undone);
             match turn {
-                Turn::Left => changes[t] += 1,
-                Turn::Past(p) => {
-                    undone[t] = p;
+                None => counted[t].left += 1,
+                Some(p) => {
+                    counted[t].undone = p;
                     sought = sought_next(sought, r);
                 }
             }
         }
     }
-    Walk { sought, changes }
+    Walk { sought, counted }
 }
 
 // How many changes of t are left, by what the walk met: none of one without a begin.
@@ -93,7 +96,7 @@ pub fn reserved(log: &[u32], work: &[u32], from: usize, c: usize, active: u32) -
     let walk = walk_down(log, work, from, c, active);
     let mut sum: u32 = 0;
     for t in 0..TXNS {
-        sum += reserve_of(active, walk.sought, t, walk.changes[t]);
+        sum += reserve_of(active, walk.sought, t, walk.counted[t].left);
     }
     sum
 }
@@ -104,5 +107,5 @@ pub fn changes_left(log: &[u32], work: &[u32], from: usize, c: usize, t: usize) 
     ensures { result ≡ length (changes_left (noted work.now from) log.now c t) }
 {
     let walk = walk_down(log, work, from, c, bits::mask_of(t));
-    left_of(walk.sought, t, walk.changes[t])
+    left_of(walk.sought, t, walk.counted[t].left)
 }

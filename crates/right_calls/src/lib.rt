@@ -25,20 +25,16 @@ pub fn held_grant(
     ensures { out result stored.now copies.now received.now log.now counts.now work.new ≡ call_grant (areas stored.now copies.now received.now log.now counts.now work.old) c p r }
 {
     if !entry::is_open(work) {
-        return Answer::Refused(Refusal::NotOpen);
+        return Err(Refusal::NotOpen);
     }
     let n = stored.len() / PAGE_WORDS;
-    let k = rights::grant_check(work, n, c, p, r);
-    match k {
-        Check::Refuse(x) => Answer::Refused(x),
-        Check::Accept => {
-            rights::grant_apply(work, n, c, p as usize, r);
-            Answer::Done(0)
-        }
-    }
+    rights::grant_check(work, n, c, p, r)?;
+    rights::grant_apply(work, n, c, p as usize, r);
+    Ok(0)
 }
 
 // Gives client c the right r on page p.
+#[tactic(auto, using(areas::specs::Entry::called_malformed), unfolding(calls::specs::Rights::call_grant))]
 pub fn grant(
     stored: &[u32],
     copies: &[u32],
@@ -53,7 +49,7 @@ pub fn grant(
     ensures { out result stored.now copies.now received.now log.now counts.now work.new ≡ call_grant (areas stored.now copies.now received.now log.now counts.now work.old) c p r }
 {
     if !entry::well_formed(stored, copies, received, log, counts, work, true) {
-        return Answer::Refused(Refusal::Malformed);
+        return Err(Refusal::Malformed);
     }
     held_grant(stored, copies, received, log, counts, work, c, p, r)
 }

@@ -1,14 +1,12 @@
 -- Document 02, L9: the right that a lock needs, and the tests of a change of one, as the code makes them. n is the number of pages.
 -- Assumes nothing.
-use Rattle.std.specs.Prelude.{ℕ, ◌+◌, ◌<◌, ◌≤◌, ◌≡◌, refl, Bool, true, false, ◌&&◌, ◌||◌, List, [], eqb, leb, ltb}
+use Rattle.std.specs.Prelude.{ℕ, ◌+◌, ◌<◌, ◌≤◌, ◌≡◌, refl, Bool, true, false, ◌&&◌, ◌||◌, List, [], eqb, leb, ltb, Ok, Err}
 use Rattle.std.proofs.Common.{ap, ◌∙◌, arith}
 use Rattle.std.proofs.Math.Bool.{not}
 use Rattle.words.specs.Tests.{any, any_next}
 use Rattle.records.specs.Records.{txn_count}
 use Rattle.areas.specs.declared.Refusal.TheVariants.{OutOfRange, WrongState}
-use Rattle.areas.specs.declared.Check.{Check}
-use Rattle.areas.specs.declared.Check.TheVariants.{Accept, Refuse}
-use Rattle.areas.specs.Answers.{verdict, need_holds, need_fails}
+use Rattle.areas.specs.Answers.{verdict, need_holds, need_fails, Check}
 use Rattle.areas.specs.Areas.{Areas, areas}
 use Rattle.areas.specs.Layout.{HasUndoing, client_count, right_at}
 use Rattle.areas.specs.Tables.{at, is_active}
@@ -44,14 +42,14 @@ unfolding grant_tests
 grant_as s c r g k w n d p x e = e
 
 module _ (s : Areas) (n c p r : ℕ) where
-  pub grant_outside : is_client c && ltb p n && is_right r ≡ false → Refuse OutOfRange ≡ verdict (grant_tests s n c p r)
+  pub grant_outside : is_client c && ltb p n && is_right r ≡ false → Err OutOfRange ≡ verdict (grant_tests s n c p r)
   unfolding grant_tests
   grant_outside h = need_fails _ _ _ _ h
 
-  pub grant_active : is_client c && ltb p n && is_right r ≡ true → has_active s.work n c ≡ true → Refuse WrongState ≡ verdict (grant_tests s n c p r)
+  pub grant_active : is_client c && ltb p n && is_right r ≡ true → has_active s.work n c ≡ true → Err WrongState ≡ verdict (grant_tests s n c p r)
   unfolding grant_tests
   grant_active h a = need_fails _ _ _ _ (ap not a) ∙ need_holds _ _ _ _ h
 
 -- what the code that makes the change needs of a call whose tests passed
-pub grant_ready : (s : Areas) (n c p r : ℕ) → Open s n → verdict (grant_tests s n c p r) ≡ Accept → HasUndoing s.work n 0 × (c < client_count) × (p < n)
+pub grant_ready : (s : Areas) (n c p r : ℕ) → Open s n → verdict (grant_tests s n c p r) ≡ Ok tt → HasUndoing s.work n 0 × (c < client_count) × (p < n)
 grant_ready s n c p r o h = let f = grant_facts s n c p r h in let z = o.sized in ((z.top, omega arith), f.client, f.page)

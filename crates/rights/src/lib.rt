@@ -56,12 +56,12 @@ pub fn grant_check(w: &[u32], n: usize, c: u32, p: u32, r: u32) -> Check
 {
     let page = p as usize;
     if !((c < layout::CLIENTS) & (page < n) & (r <= layout::WRITING)) {
-        return Check::Refuse(Refusal::OutOfRange);
+        return Err(Refusal::OutOfRange);
     }
     if has_active(w, n, c) {
-        Check::Refuse(Refusal::WrongState)
+        Err(Refusal::WrongState)
     } else {
-        Check::Accept
+        Ok(())
     }
 }
 

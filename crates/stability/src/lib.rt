@@ -19,9 +19,9 @@ pub fn force_check(counts: &[u32]) -> Check
     ensures { result ≡ verdict (force_tests (areas [] [] [] [] counts.now [])) }
 {
     if counts[layout::STABLE] < counts[layout::RECEIVED] {
-        return Check::Accept;
+        return Ok(());
     }
-    Check::Refuse(Refusal::WrongState)
+    Err(Refusal::WrongState)
 }
 
 // One more record becomes stable. Answers how many are.
@@ -42,10 +42,10 @@ pub fn store_check(log: &[u32], counts: &[u32], n: usize, p: u32) -> Check
 {
     let q = p as usize;
     if n <= q {
-        return Check::Refuse(Refusal::OutOfRange);
+        return Err(Refusal::OutOfRange);
     }
     if counts[layout::RECEIVED] <= counts[layout::STABLE] {
-        return Check::Accept;
+        return Ok(());
     }
     let last = record_ops::last_naming(
         log,
@@ -53,9 +53,9 @@ pub fn store_check(log: &[u32], counts: &[u32], n: usize, p: u32) -> Check
         counts[layout::RECEIVED] as usize,
     );
     if counts[layout::STABLE] < last[q] {
-        return Check::Refuse(Refusal::Unstable);
+        return Err(Refusal::Unstable);
     }
-    Check::Accept
+    Ok(())
 }
 
 // Refusal 13 of emptying: a transaction is active, a record is not stable, or a copy is unlike its stored page.
@@ -64,12 +64,12 @@ pub fn empty_check(stored: &[u32], copies: &[u32], counts: &[u32], work: &[u32])
     ensures { result ≡ verdict (empty_tests (areas stored.now copies.now [] [] counts.now work.now)) }
 {
     if !((work[layout::ACTIVE_AT] == 0) & (counts[layout::STABLE] == counts[layout::RECEIVED])) {
-        return Check::Refuse(Refusal::InUse);
+        return Err(Refusal::InUse);
     }
     if !page_ops::copy::areas_agree(copies, stored) {
-        return Check::Refuse(Refusal::InUse);
+        return Err(Refusal::InUse);
     }
-    Check::Accept
+    Ok(())
 }
 
 // Both counts become 0, and no undoing word of the l records stays.

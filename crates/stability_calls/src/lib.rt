@@ -23,16 +23,14 @@ pub fn held_force(
     ensures { out result stored.now copies.now received.now log.now counts.new work.now ≡ call_force (areas stored.now copies.now received.now log.now counts.old work.now) }
 {
     if !entry::is_open(work) {
-        return Answer::Refused(Refusal::NotOpen);
+        return Err(Refusal::NotOpen);
     }
-    let k = stability::force_check(counts);
-    match k {
-        Check::Refuse(x) => Answer::Refused(x),
-        Check::Accept => Answer::Done(stability::raise_stable(counts)),
-    }
+    stability::force_check(counts)?;
+    Ok(stability::raise_stable(counts))
 }
 
 // Makes one more record stable.
+#[tactic(auto, using(areas::specs::Entry::called_malformed), unfolding(calls::specs::Stability::call_force))]
 pub fn force(
     stored: &[u32],
     copies: &[u32],
@@ -44,7 +42,7 @@ pub fn force(
     ensures { out result stored.now copies.now received.now log.now counts.new work.now ≡ call_force (areas stored.now copies.now received.now log.now counts.old work.now) }
 {
     if !entry::well_formed(stored, copies, received, log, counts, work, true) {
-        return Answer::Refused(Refusal::Malformed);
+        return Err(Refusal::Malformed);
     }
     held_force(stored, copies, received, log, counts, work)
 }
@@ -63,20 +61,16 @@ pub fn held_store_page(
     ensures { out result stored.new copies.now received.now log.now counts.now work.now ≡ call_store (areas stored.old copies.now received.now log.now counts.now work.now) p }
 {
     if !entry::is_open(work) {
-        return Answer::Refused(Refusal::NotOpen);
+        return Err(Refusal::NotOpen);
     }
     let n = stored.len() / PAGE_WORDS;
-    let k = stability::store_check(log, counts, n, p);
-    match k {
-        Check::Refuse(x) => Answer::Refused(x),
-        Check::Accept => {
-            page_ops::copy::copy_page(copies, stored, p as usize);
-            Answer::Done(0)
-        }
-    }
+    stability::store_check(log, counts, n, p)?;
+    page_ops::copy::copy_page(copies, stored, p as usize);
+    Ok(0)
 }
 
 // Writes the copy of page p to the stored pages.
+#[tactic(auto, using(areas::specs::Entry::called_malformed), unfolding(calls::specs::Stability::call_store))]
 pub fn store_page(
     stored: &mut [u32],
     copies: &[u32],
@@ -89,7 +83,7 @@ pub fn store_page(
     ensures { out result stored.new copies.now received.now log.now counts.now work.now ≡ call_store (areas stored.old copies.now received.now log.now counts.now work.now) p }
 {
     if !entry::well_formed(stored, copies, received, log, counts, work, true) {
-        return Answer::Refused(Refusal::Malformed);
+        return Err(Refusal::Malformed);
     }
     held_store_page(stored, copies, received, log, counts, work, p)
 }
@@ -107,20 +101,16 @@ pub fn held_empty_log(
     ensures { out result stored.now copies.now received.now log.now counts.new work.new ≡ call_empty (areas stored.now copies.now received.now log.now counts.old work.old) }
 {
     if !entry::is_open(work) {
-        return Answer::Refused(Refusal::NotOpen);
+        return Err(Refusal::NotOpen);
     }
-    let k = stability::empty_check(stored, copies, counts, work);
-    match k {
-        Check::Refuse(x) => Answer::Refused(x),
-        Check::Accept => {
-            let n = stored.len() / PAGE_WORDS;
-            stability::empty(counts, work, n, log.len() / RECORD_WORDS);
-            Answer::Done(0)
-        }
-    }
+    stability::empty_check(stored, copies, counts, work)?;
+    let n = stored.len() / PAGE_WORDS;
+    stability::empty(counts, work, n, log.len() / RECORD_WORDS);
+    Ok(0)
 }
 
 // Sets both counts to 0.
+#[tactic(auto, using(areas::specs::Entry::called_malformed), unfolding(calls::specs::Stability::call_empty))]
 pub fn empty_log(
     stored: &[u32],
     copies: &[u32],
@@ -132,7 +122,7 @@ pub fn empty_log(
     ensures { out result stored.now copies.now received.now log.now counts.new work.new ≡ call_empty (areas stored.now copies.now received.now log.now counts.old work.old) }
 {
     if !entry::well_formed(stored, copies, received, log, counts, work, true) {
-        return Answer::Refused(Refusal::Malformed);
+        return Err(Refusal::Malformed);
     }
     held_empty_log(stored, copies, received, log, counts, work)
 }

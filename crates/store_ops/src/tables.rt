@@ -37,8 +37,8 @@ pub fn leave_all(w: &mut [u32], a: usize, k: usize, t: u32)
     requires { (a + k ≤ length w.old) × (t < 32) }
     ensures { w.new ≡ leaves t w.old a k }
 {
-    for j in 0..k {
-        w[a + j] = bits::without_bit(w[a + j], t as usize);
+    for mask in &mut w[a..a + k] {
+        *mask = bits::without_bit(*mask, t as usize);
     }
 }
 

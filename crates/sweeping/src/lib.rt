@@ -26,12 +26,12 @@ fn sweep_check(log: &[u32], counts: &[u32], work: &[u32], n: usize, m: u32) -> C
     ensures { result ≡ verdict (spec.sweep_tests (areas [] [] [] log.now counts.now work.now) n m) }
 {
     if m == 0 {
-        return Check::Accept;
+        return Ok(());
     }
     if !log_ops::room_beyond(log, counts, work, n, log_ops::SWEEP_ROOM) {
-        return Check::Refuse(Refusal::LogFull);
+        return Err(Refusal::LogFull);
     }
-    Check::Accept
+    Ok(())
 }
 
 // A sweeping step of the pass record's page that frees the slots of m, with one sweep record if there are any. Answers how many.
@@ -77,9 +77,6 @@ pub fn sweep_step(
     ensures { (s : List ℕ) → out result s copies.new received.new log.new counts.new work.new ≡ spec.swept (areas s copies.old received.old log.old counts.old work.old) n }
 {
     let m = sweep_maps::freed_map(copies, work, n, pass.page as usize);
-    let k = sweep_check(log, counts, work, n, m);
-    match k {
-        Check::Refuse(x) => Answer::Refused(x),
-        Check::Accept => Answer::Done(sweep_apply(copies, received, log, counts, work, n, pass, m)),
-    }
+    sweep_check(log, counts, work, n, m)?;
+    Ok(sweep_apply(copies, received, log, counts, work, n, pass, m))
 }

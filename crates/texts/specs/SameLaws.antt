@@ -1,20 +1,16 @@
 -- Laws of `same`.
-use Rattle.std.specs.Prelude.{ℕ, suc, ◌≡◌, refl, true, false, List, [], ◌∷◌, eqb, length}
-use Rattle.std.proofs.Common.{ap, eq-eqb, ne_eqb}
+use Rattle.std.specs.Prelude.{ℕ, suc, ◌≡◌, refl, Bool, false, ◌&&◌, List, [], ◌∷◌, eqb, bytes_eq, length}
+use Rattle.std.proofs.Common.{ap}
 use Rattle.std.proofs.Math.Bool.{and-false}
 use Rattle.texts.specs.Same.{same}
 
-pub same_none : same [] [] ≡ true
+-- what `==` says of two slices of bytes
+pub same_bytes : (s t : List ℕ) → bytes_eq s t ≡ same s t
 unfolding same
-same_none = refl
-
-pub same_more : (x y : ℕ) (s t : List ℕ) → x ≡ y → same (x ∷ s) (y ∷ t) ≡ same s t
-unfolding same
-same_more x y s t e = rw (eq-eqb x y e)
-
-pub same_stop : (x y : ℕ) (s t : List ℕ) → (x ≡ y → ⊥) → same (x ∷ s) (y ∷ t) ≡ false
-unfolding same
-same_stop x y s t n = rw (ne_eqb x y n)
+same_bytes [] [] = refl
+same_bytes [] (y ∷ t) = refl
+same_bytes (x ∷ s) [] = refl
+same_bytes (x ∷ s) (y ∷ t) = ap (λ (b : Bool). eqb x y && b) (same_bytes s t)
 
 pub same_lengths : (s t : List ℕ) → (length s ≡ length t → ⊥) → same s t ≡ false
 unfolding same

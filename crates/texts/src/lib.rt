@@ -17,29 +17,12 @@ pub const LF: u8 = b'\n';
 pub fn same(a: &[u8], b: &[u8]) -> bool
     ensures { result ≡ same a.now b.now }
 {
-    if a.len() != b.len() {
-        return false;
-    }
-    let mut i: usize = 0;
-    while i < a.len() {
-        if a[i] != b[i] {
-            return false;
-        }
-        i += 1;
-    }
-    true
+    a == b
 }
 
 // How many bytes stand before the first comma.
 pub fn field_len(s: &[u8]) -> usize
     ensures { result ≡ field_length s.now }
 {
-    let mut i: usize = 0;
-    while i < s.len() {
-        if s[i] == COMMA {
-            return i;
-        }
-        i += 1;
-    }
-    i
+    s.iter().position(|&b| b == COMMA).unwrap_or(s.len())
 }

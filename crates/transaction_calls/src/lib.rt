@@ -24,19 +24,15 @@ pub fn held_begin(
     ensures { out result stored.now copies.now received.new log.new counts.new work.new ≡ call_begin (areas stored.now copies.now received.old log.old counts.old work.old) t client }
 {
     if !entry::is_open(work) {
-        return Answer::Refused(Refusal::NotOpen);
+        return Err(Refusal::NotOpen);
     }
     let n = stored.len() / PAGE_WORDS;
-    let k = transactions::begin_check(log, counts, work, n, t, client);
-    match k {
-        Check::Refuse(x) => Answer::Refused(x),
-        Check::Accept => Answer::Done(transactions::begin_apply(
-            received, log, counts, work, n, t, client,
-        )),
-    }
+    transactions::begin_check(log, counts, work, n, t, client)?;
+    Ok(transactions::begin_apply(received, log, counts, work, n, t, client))
 }
 
 // Begins transaction t as the client.
+#[tactic(auto, using(areas::specs::Entry::called_malformed), unfolding(calls::specs::Transactions::call_begin))]
 pub fn begin(
     stored: &[u32],
     copies: &[u32],
@@ -50,7 +46,7 @@ pub fn begin(
     ensures { out result stored.now copies.now received.new log.new counts.new work.new ≡ call_begin (areas stored.now copies.now received.old log.old counts.old work.old) t client }
 {
     if !entry::well_formed(stored, copies, received, log, counts, work, true) {
-        return Answer::Refused(Refusal::Malformed);
+        return Err(Refusal::Malformed);
     }
     held_begin(stored, copies, received, log, counts, work, t, client)
 }
@@ -69,19 +65,15 @@ pub fn held_commit(
     ensures { out result stored.now copies.now received.new log.new counts.new work.new ≡ call_commit (areas stored.now copies.now received.old log.old counts.old work.old) t }
 {
     if !entry::is_open(work) {
-        return Answer::Refused(Refusal::NotOpen);
+        return Err(Refusal::NotOpen);
     }
     let n = stored.len() / PAGE_WORDS;
-    let k = transactions::commit_check(log, counts, work, n, t);
-    match k {
-        Check::Refuse(x) => Answer::Refused(x),
-        Check::Accept => {
-            Answer::Done(transactions::commit_apply(received, log, counts, work, n, t))
-        }
-    }
+    transactions::commit_check(log, counts, work, n, t)?;
+    Ok(transactions::commit_apply(received, log, counts, work, n, t))
 }
 
 // Commits transaction t.
+#[tactic(auto, using(areas::specs::Entry::called_malformed), unfolding(calls::specs::Transactions::call_commit))]
 pub fn commit(
     stored: &[u32],
     copies: &[u32],
@@ -94,7 +86,7 @@ pub fn commit(
     ensures { out result stored.now copies.now received.new log.new counts.new work.new ≡ call_commit (areas stored.now copies.now received.old log.old counts.old work.old) t }
 {
     if !entry::well_formed(stored, copies, received, log, counts, work, true) {
-        return Answer::Refused(Refusal::Malformed);
+        return Err(Refusal::Malformed);
     }
     held_commit(stored, copies, received, log, counts, work, t)
 }
@@ -113,19 +105,15 @@ pub fn held_abort(
     ensures { out result stored.now copies.new received.new log.new counts.new work.new ≡ call_abort (areas stored.now copies.old received.old log.old counts.old work.old) t }
 {
     if !entry::is_open(work) {
-        return Answer::Refused(Refusal::NotOpen);
+        return Err(Refusal::NotOpen);
     }
     let n = stored.len() / PAGE_WORDS;
-    let k = aborts::abort_check(log, counts, work, n, t);
-    match k {
-        Check::Refuse(x) => Answer::Refused(x),
-        Check::Accept => {
-            Answer::Done(aborts::abort_apply(copies, received, log, counts, work, n, t))
-        }
-    }
+    aborts::abort_check(log, counts, work, n, t)?;
+    Ok(aborts::abort_apply(copies, received, log, counts, work, n, t))
 }
 
 // Aborts transaction t.
+#[tactic(auto, using(areas::specs::Entry::called_malformed), unfolding(calls::specs::Transactions::call_abort))]
 pub fn abort(
     stored: &[u32],
     copies: &mut [u32],
@@ -138,7 +126,7 @@ pub fn abort(
     ensures { out result stored.now copies.new received.new log.new counts.new work.new ≡ call_abort (areas stored.now copies.old received.old log.old counts.old work.old) t }
 {
     if !entry::well_formed(stored, copies, received, log, counts, work, true) {
-        return Answer::Refused(Refusal::Malformed);
+        return Err(Refusal::Malformed);
     }
     held_abort(stored, copies, received, log, counts, work, t)
 }

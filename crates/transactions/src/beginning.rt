@@ -1,6 +1,5 @@
-ghost use Rattle.std.specs.Prelude.{◌≡◌, List, [], ℕ, ◌<◌, get_or};
+ghost use Rattle.std.specs.Prelude.{◌≡◌, List, [], ℕ, ◌<◌, get_or, Ok};
 ghost use Rattle.records.specs.Records.{txn_count, begin_of};
-ghost use Rattle.areas.specs.declared.Answer.TheVariants.{Done};
 ghost use Rattle.areas.specs.Answers.{verdict};
 ghost use Rattle.areas.specs.Areas.{areas, out};
 ghost use Rattle.areas.specs.Layout.{HasUndoing};
@@ -26,15 +25,15 @@ pub fn begin_check(
     ensures { result ≡ verdict (begin_tests (areas [] [] [] log.now counts.now work.now) n t client) }
 {
     if !((t < TXNS) & (client < layout::CLIENTS)) {
-        return Check::Refuse(Refusal::OutOfRange);
+        return Err(Refusal::OutOfRange);
     }
     if store_ops::has(work, layout::ACTIVE_AT, t) {
-        return Check::Refuse(Refusal::WrongState);
+        return Err(Refusal::WrongState);
     }
     if log_ops::room_beyond(log, counts, work, n, log_ops::CHANGE_ROOM) {
-        Check::Accept
+        Ok(())
     } else {
-        Check::Refuse(Refusal::LogFull)
+        Err(Refusal::LogFull)
     }
 }
 
@@ -61,7 +60,7 @@ pub fn begin_apply(
 ) -> u32
     requires fits { Fits received.old log.old counts.old (begin_of t) }
     requires has_undoing { HasUndoing work.old n 0 × (0 < n) × (t < txn_count) }
-    ensures { (s c : List ℕ) → out (Done result) s c received.new log.new counts.new work.new ≡ counted (begun (areas s c received.old log.old counts.old work.old) n t client) }
+    ensures { (s c : List ℕ) → out (Ok result) s c received.new log.new counts.new work.new ≡ counted (begun (areas s c received.old log.old counts.old work.old) n t client) }
 {
     let c = log_ops::append(received, log, counts, records::begin_of(t));
     begin_tables(work, n, t, client);

@@ -1,6 +1,5 @@
-ghost use Rattle.std.specs.Prelude.{◌≡◌, List, [], ℕ, ◌<◌, length};
+ghost use Rattle.std.specs.Prelude.{◌≡◌, List, [], ℕ, ◌<◌, length, Ok};
 ghost use Rattle.records.specs.Records.{txn_count, commit_of};
-ghost use Rattle.areas.specs.declared.Answer.TheVariants.{Done};
 ghost use Rattle.areas.specs.Answers.{verdict};
 ghost use Rattle.areas.specs.Areas.{areas, out};
 ghost use Rattle.areas.specs.Layout.{HasTables, HasUndoing};
@@ -30,18 +29,18 @@ pub fn commit_check(log: &[u32], counts: &[u32], work: &[u32], n: usize, t: u32)
     ensures { result ≡ verdict (commit_tests (areas [] [] [] log.now counts.now work.now) n t) }
 {
     if TXNS <= t {
-        return Check::Refuse(Refusal::OutOfRange);
+        return Err(Refusal::OutOfRange);
     }
     if !store_ops::has(work, layout::ACTIVE_AT, t) {
-        return Check::Refuse(Refusal::WrongState);
+        return Err(Refusal::WrongState);
     }
     if !all_flushed(work, n, t) {
-        return Check::Refuse(Refusal::Unflushed);
+        return Err(Refusal::Unflushed);
     }
     if room_within(log, counts, 1) {
-        Check::Accept
+        Ok(())
     } else {
-        Check::Refuse(Refusal::LogFull)
+        Err(Refusal::LogFull)
     }
 }
 
@@ -56,7 +55,7 @@ pub fn commit_apply(
 ) -> u32
     requires fits { Fits received.old log.old counts.old (commit_of t) }
     requires has_undoing { HasUndoing work.old n 0 × (0 < n) × (t < txn_count) }
-    ensures { (s c : List ℕ) → out (Done result) s c received.new log.new counts.new work.new ≡ counted (committed (areas s c received.old log.old counts.old work.old) n t) }
+    ensures { (s c : List ℕ) → out (Ok result) s c received.new log.new counts.new work.new ≡ counted (committed (areas s c received.old log.old counts.old work.old) n t) }
 {
     let c = log_ops::append(received, log, counts, records::commit_of(t));
     end_tables(work, n, t);

@@ -1,6 +1,6 @@
 -- The newest changes of a transaction that are left, undone newest first: a walk down the log that appends to the log it reads, and notes
 -- in the tables what it appended. n is the number of pages. Assumes nothing.
-use Rattle.std.specs.Prelude.{ℕ, zero, suc, ◌+◌, ◌*◌, ◌-◌, ◌/◌, ◌<◌, ◌≤◌, ◌≡◌, true, not, ◌||◌, List, [], ◌∷◌, length, get_or, set, take, eqb}
+use Rattle.std.specs.Prelude.{ℕ, zero, suc, ◌+◌, ◌*◌, ◌-◌, ◌/◌, ◌<◌, ◌≤◌, ◌≡◌, true, not, ◌||◌, List, [], ◌∷◌, length, get_or, set, take, eqb, Some, None}
 use Rattle.std.proofs.Math.Path.{refl}
 use Rattle.std.proofs.Common.{sym, ap, ◌∙◌, get_or-set_same, arith}
 use Rattle.words.specs.Tests.{and_l, or_l}
@@ -11,7 +11,6 @@ use Rattle.records.specs.Effects.{undoing}
 use Rattle.records.specs.Soundness.{record_sound, records_sound}
 use Rattle.record_laws.specs.RecordLaws.{Agree, recorded_agrees, records_sound_at, sound_record, named_object}
 use Rattle.record_laws.specs.SoundRecords.{undoing_sound}
-use Rattle.log_turns.specs.declared.Turn.TheVariants.{Left, Past}
 use Rattle.record_ops.specs.InRange.{sound_in_range}
 use Rattle.log_turns.specs.Turns.{turn_at, below, below_all, below_some, below_left, below_past, left_tells, past_tells}
 use Rattle.areas.specs.Areas.{Areas, count_words, areas, appended}
@@ -138,7 +137,7 @@ module _ (a₀ g₀ k₀ w₀ : List ℕ) (n t m : ℕ) where
       from = rw place at down
 
       -- no change that is left
-      pub going_past : (q : ℕ) → turn_at (not (eqb (at w b) 0)) r t p ≡ Past q → Going a₀ g₀ k₀ w₀ n t m a g k w (i - 1) left q
+      pub going_past : (q : ℕ) → turn_at (not (eqb (at w b) 0)) r t p ≡ Some q → Going a₀ g₀ k₀ w₀ n t m a g k w (i - 1) left q
       going_past q e =
           let d : rest g₀ k₀ w₀ n t i p ≡ rest g₀ k₀ w₀ n t (i - 1) q =
           ap (λ (x : ℕ). rest g₀ k₀ w₀ n t x p) place ∙ below_past (undoes w₀ n) g₀ (get_or k₀ 0 0) t (i - 1) p from q (turn_here ∙ e) in
@@ -160,7 +159,7 @@ module _ (a₀ g₀ k₀ w₀ : List ℕ) (n t m : ℕ) where
           }
 
       -- a change that is left
-      module _ (e : turn_at (not (eqb (at w b) 0)) r t p ≡ Left) where
+      module _ (e : turn_at (not (eqb (at w b) 0)) r t p ≡ None) where
         change : eqb r.kind 2 || eqb r.kind 3 ≡ true
         change = and_l (eqb r.kind 2 || eqb r.kind 3) (eqb r.txn t) (left_tells (not (eqb (at w b) 0)) r t p e).0
 

@@ -11,7 +11,6 @@ ghost use Rattle.log_ops.specs.Logs.{left_in};
 ghost use Rattle.undo_walk.specs.Going.{Goable};
 
 use areas::layout;
-use log_turns::Turn;
 use pages::SLOTS;
 use records::Record;
 
@@ -44,13 +43,14 @@ pub fn undo_newest(
     let mut i = counts[layout::RECEIVED] as usize;
     let mut left = k;
     let mut pending: u32 = 0;
+    // A range over the records would end the walk a second time: it ends where nothing is left, above the first record.
     while 0 < left {
         i -= 1;
         let r = log_reader::record_at(log, i);
         let turn = log_turns::turn_at(r, work[layout::undoing_at(n, i)], t, pending);
         match turn {
-            Turn::Past(p) => pending = p,
-            Turn::Left => {
+            Some(p) => pending = p,
+            None => {
                 let c = counts[layout::RECEIVED] as usize;
                 note_back(work, n, t, c, r);
                 let _ = log_ops::append(received, log, counts, record_ops::undoing(r));

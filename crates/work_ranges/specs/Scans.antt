@@ -1,8 +1,11 @@
 -- Runs of working words, as the code scans them, and the tests that they give. Assumes nothing.
-use Rattle.std.specs.Prelude.{ℕ, ◌+◌, ◌*◌, ◌-◌, ◌≤◌, ◌≡◌, Bool, true, false, ◌&&◌, List, get_or, leb}
+use Rattle.std.specs.Prelude.{ℕ, zero, suc, ◌+◌, ◌*◌, ◌-◌, ◌≤◌, ◌≡◌, refl, Bool, true, false, ◌&&◌, List, [], ◌∷◌, length, take, drop, get_or, leb}
+use Rattle.std.specs.List.{list_all}
+use Rattle.std.proofs.Math.Seq.{get_or-drop}
+use mathlib.Core.List.{◌++◌}
 use Rattle.std.proofs.Math.Path.{sym}
-use Rattle.std.proofs.Common.{ap, ◌∙◌, arith}
-use Rattle.words.specs.Tests.{all, all_none, all_next, all_split, all_same, and_assoc, and_true}
+use Rattle.std.proofs.Common.{ap, ◌∙◌, take-suc, length-drop, arith}
+use Rattle.words.specs.Tests.{all, all_split, all_same, and_cong, and_assoc, and_true}
 use Rattle.words.specs.Spans.{up_to}
 use Rattle.areas.specs.Tables.{at}
 use Rattle.pages.specs.Geometry.{object_count}
@@ -10,17 +13,22 @@ use Rattle.records.specs.Records.{txn_count, mask_top}
 use Rattle.areas.specs.Layout.{finished, flagged_top, steps_top, colour_top, reopening_at, reopening_page_at, phase_at, pass_page_at, steps_at, active_at, readers_at, writers_at, unflushed_at, known_at, pruned_at, created_at, colour_at, mark_words, marked_at, order_at, client_count, client_at, right_at, undoing_at, changes_top, order_top, client_top, writing, undoing_top}
 use Rattle.areas.specs.Ranges.{rows_in_range, work_in_range}
 
-pub up_to_none : (w : List ℕ) (a top : ℕ) → true ≡ up_to w a 0 top
-unfolding up_to
-up_to_none w a top = sym (all_none (λ k. leb (get_or w (a + k) 0) top))
+-- a test of every word of a run, as a fold over the slice makes it: one word more, and the whole run
+pub tested_more : (f : ℕ → Bool) (ys : List ℕ) (y : ℕ) → list_all f (ys ++ y ∷ []) ≡ list_all f ys && f y
+tested_more f [] y = and_true (f y)
+tested_more f (x ∷ ys) y = ap (λ (b : Bool). f x && b) (tested_more f ys y) ∙ sym (and_assoc (f x) (list_all f ys) (f y))
 
-pub up_to_next : (w : List ℕ) (a k top : ℕ) {ok : Bool} → ok ≡ up_to w a k top → ok && leb (get_or w (a + k) 0) top ≡ up_to w a (k + 1) top
-unfolding up_to
-up_to_next w a k top e = rw e (all_next (λ k. leb (get_or w (a + k) 0) top) k)
+tested_run : (f : ℕ → Bool) (w : List ℕ) (a n : ℕ) → a + n ≤ length w → list_all f (take n (drop a w)) ≡ all (λ k. f (get_or w (a + k) 0)) n
+unfolding all
+tested_run f w a zero h = refl
+tested_run f w a (suc n) h = let e = length-drop a w in
+    ap (list_all f) (take-suc (drop a w) n 0 (omega arith))
+    ∙ tested_more f (take n (drop a w)) (get_or (drop a w) n 0)
+    ∙ and_cong (tested_run f w a n (omega arith)) (ap f (get_or-drop a w n 0))
 
--- a count that reached the bound
-pub up_to_end : (w : List ℕ) (a n i top : ℕ) {ok : Bool} → i ≤ n → n ≤ i → ok ≡ up_to w a i top → ok ≡ up_to w a n top
-up_to_end w a n i top h k e = e ∙ ap (λ (j : ℕ). up_to w a j top) (omega arith)
+pub tested_up_to : (w : List ℕ) (a n k top : ℕ) {ok : Bool} → a + n ≤ length w → k ≡ n → ok ≡ list_all (λ x. leb x top) (take k (drop a w)) → ok ≡ up_to w a n top
+unfolding up_to
+tested_up_to w a n k top h q e = e ∙ ap (λ (m : ℕ). list_all (λ x. leb x top) (take m (drop a w))) q ∙ tested_run (λ x. leb x top) w a n h
 
 pub up_to_one : (w : List ℕ) (a top : ℕ) → leb (at w a) top ≡ up_to w a 1 top
 unfolding up_to all

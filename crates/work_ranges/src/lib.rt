@@ -18,11 +18,7 @@ fn words_up_to(w: &[u32], a: usize, n: usize, top: u32) -> bool
     requires { a + n ≤ length w.now }
     ensures { result ≡ up_to w.now a n top }
 {
-    let mut ok = true;
-    for k in 0..n {
-        ok = ok & (w[a + k] <= top);
-    }
-    ok
+    w[a..a + n].iter().fold(true, |ok, x| ok & (*x <= top))
 }
 
 // The largest values of the words of marks, of the clients and of the undoing words, with a log of l records.

@@ -1,8 +1,7 @@
 -- `bench::main` meets its contract: the areas are formatted, and given all rights, into the bench store.
 use Rattle.std.specs.Prelude.{ℕ, ◌≡◌, true, refl}
 use Rattle.std.proofs.Common.{sym, ap, ◌∙◌}
-use Rattle.areas.specs.declared.Answer.{Answer}
-use Rattle.areas.specs.Answers.{all_passed, need_holds}
+use Rattle.areas.specs.Answers.{all_passed, need_holds, Answer}
 use Rattle.areas.specs.Areas.{Areas, Out, checked_pass}
 use Rattle.areas.specs.Ranges.{fit, lengths_fit}
 use Rattle.areas.specs.Entry.{pages, records}

@@ -12,7 +12,7 @@ pub slice_bounds-put-end : goal.slice_bounds-put-end
 slice_bounds-put-end c = sym (length-take-le _ _ (lines_held _ _ _ _ _ (served_within _ _) (omega (arith, length-take c.unwrap_or-n.result c.read_chunk-got.new.buf, c.read_chunk-got.auto.buf)) c.serve_bytes-at.ensures).0)
 
 pub put-written-requires : goal.put-written-requires
-put-written-requires c = of_bytes _ _ _ c.requires.1 (lines_held _ _ _ _ _ (served_within _ _) (omega (arith, length-take c.unwrap_or-n.result c.read_chunk-got.new.buf, c.read_chunk-got.auto.buf)) c.serve_bytes-at.ensures).1
+put-written-requires c = of_bytes _ _ _ c.requires (lines_held _ _ _ _ _ (served_within _ _) (omega (arith, length-take c.unwrap_or-n.result c.read_chunk-got.new.buf, c.read_chunk-got.auto.buf)) c.serve_bytes-at.ensures).1
 
 pub returns : goal.returns
-returns c = (c.left-turns.ensures, reached_more _ _ _ _ _ _ c.requires.1 (omega (arith, length-take c.unwrap_or-n.result c.read_chunk-got.new.buf, c.read_chunk-got.auto.buf)) c.serve_bytes-at.ensures)
+returns c = λ n r. reached_more _ _ _ n _ _ r (omega (arith, length-take c.unwrap_or-n.result c.read_chunk-got.new.buf, c.read_chunk-got.auto.buf)) c.serve_bytes-at.ensures

@@ -2,8 +2,8 @@
 use Rattle.bench_serving.proofs.Filled.{none_held, line_held}
 use Rattle.bench_serving.proofs.serve_end.Goals as goal
 
-pub returns-in-No : goal.returns-in-No
-returns-in-No c = none_held _ _ _ _ c.in-No.is
+pub returns-in-None : goal.returns-in-None
+returns-in-None c = none_held _ _ _ _ c.in-None.is
 
-pub returns-in-Yes : goal.returns-in-Yes
-returns-in-Yes c = line_held _ _ _ _ _ _ _ _ _ c.in-Yes.is c.serve-a.ensures c.tell.ensures
+pub returns-in-Some : goal.returns-in-Some
+returns-in-Some c = line_held _ _ _ _ _ _ _ _ _ c.in-Some.is c.serve-a.ensures c.tell.ensures

@@ -1,51 +1,40 @@
-use Rattle.std.proofs.Common.{rules, arith, sym, ◌∙◌}
-use Rattle.decimals.specs.Numbers.{digits_from}
+use Rattle.std.proofs.Common.{rules, arith, ℕ, sym, ap, ◌∙◌, ◌+◌, ◌≤◌, ◌<◌, ◌≡◌, slice_index_or, drop}
 use Rattle.texts.specs.Walk.{at_byte, at_end}
-use Rattle.decimals.proofs.NumberLaws.{digits_end, digits_low, digits_high, digits_over, digits_more, number_empty, number_leads, number_starts}
+use Rattle.decimals.specs.Digits.{largest}
+use Rattle.decimals.specs.Numbers.{digits_from, and_digit}
+use Rattle.decimals.proofs.NumberLaws.{digits_end, digits_other, digits_over, digits_more}
 use Rattle.decimals.proofs.number_of.Goals as goal
 
-pub returns-then-s-eq0 : goal.returns-then-s-eq0
-returns-then-s-eq0 c = number_empty _ c.if-s-eq0.true
-
-pub returns-then-s : goal.returns-then-s
-returns-then-s c = number_leads _ c.if-s-eq0.false c.if-s.true
-
-pub loop-i-init : goal.loop-i-init
-loop-i-init c = (omega arith, omega arith, number_starts _ c.if-s-eq0.false c.if-s.false)
-
-pub returns-then-b-lt-ZERO : goal.returns-then-b-lt-ZERO
-returns-then-b-lt-ZERO c =
+pub returns-then-not-is_ascii_digit : goal.returns-then-not-is_ascii_digit
+returns-then-not-is_ascii_digit c =
     sym
-    (at_byte (digits_from c.loop-i.n) c.args.s.now c.loop-i.i (search rules)
-    ∙ digits_low _ _ _ c.if-b-lt-ZERO.true)
-    ∙ c.loop-i.invariant.2
+    (at_byte (digits_from c.loop-b.n) c.args.s.now c.loop-b.b-index (search rules)
+    ∙ digits_other _ _ _ (sym c.is_ascii_digit.ensures.value ∙ c.if-not-is_ascii_digit.true))
+    ∙ c.loop-b.invariant.1
 
-pub returns-then-b-gt-NINE : goal.returns-then-b-gt-NINE
-returns-then-b-gt-NINE c =
-    sym
-    (at_byte (digits_from c.loop-i.n) c.args.s.now c.loop-i.i (search rules)
-    ∙ digits_high _ _ _ c.if-b-gt-NINE.true)
-    ∙ c.loop-i.invariant.2
+pub returns-in_err-n : goal.returns-in_err-n
+returns-in_err-n c =
+    let b = slice_index_or c.args.s.now c.loop-b.b-index 0 in
+    let h : largest < and_digit c.loop-b.n b = search rules in
+    c.from_residual.ensures
+    ∙ sym (at_byte (digits_from c.loop-b.n) c.args.s.now c.loop-b.b-index (search rules) ∙ digits_over _ _ _ h)
+    ∙ c.loop-b.invariant.1
 
-pub returns-then-n-gt-LARGEST : goal.returns-then-n-gt-LARGEST
-returns-then-n-gt-LARGEST c =
-    sym
-    (at_byte (digits_from c.loop-i.n) c.args.s.now c.loop-i.i (search rules)
-    ∙ digits_over _ _ _ c.if-n-gt-LARGEST.true)
-    ∙ c.loop-i.invariant.2
-
-pub loop-i-preserved : goal.loop-i-preserved
-loop-i-preserved c = (
-  omega arith,
-  omega arith,
-  sym
-      (at_byte (digits_from c.loop-i.n) c.args.s.now c.loop-i.i (search rules)
-      ∙ digits_more _ _ _ c.if-b-lt-ZERO.false c.if-b-gt-NINE.false c.if-n-gt-LARGEST.false)
-      ∙ c.loop-i.invariant.2,
-)
+pub loop-b-preserved : goal.loop-b-preserved
+loop-b-preserved c =
+    let b = slice_index_or c.args.s.now c.loop-b.b-index 0 in
+    let h : and_digit c.loop-b.n b ≤ largest = search rules in
+    let e : c.in_ok-n.n ≡ and_digit c.loop-b.n b = search rules in (
+      omega (arith, h, e),
+      ap (λ (m : ℕ). digits_from m (drop (c.loop-b.b-index + 1) c.args.s.now)) e
+          ∙ sym
+          (at_byte (digits_from c.loop-b.n) c.args.s.now c.loop-b.b-index (search rules)
+          ∙ digits_more _ _ _ (sym c.is_ascii_digit.ensures.value ∙ c.if-not-is_ascii_digit.false) h)
+          ∙ c.loop-b.invariant.1,
+    )
 
 pub returns : goal.returns
 returns c =
     sym
-    (at_end (digits_from c.loop-i.n) c.args.s.now c.loop-i.i (search rules) ∙ digits_end _)
-    ∙ c.loop-i.invariant.2
+    (at_end (digits_from c.loop-b.n) c.args.s.now c.loop-b.b-index (search rules) ∙ digits_end _)
+    ∙ c.loop-b.invariant.1

@@ -1,6 +1,5 @@
 use borrow.Author.Tests.{not-true, not-false}
 use native.Mathlib.Omega.{arith}
-use Prim.Native.Nat.{◌-◌}
 use mathlib.Core.Path.{refl}
 use Rattle.words.specs.Spans.{over}
 use Rattle.ended_entries.specs.Entries.{over_then, entries_left, entries_run}

@@ -1,3 +1,4 @@
+use Rattle.std.proofs.lemmas.Result.{err_from_is_err_and}
 use Rattle.acceptance.specs.Entered.{formed_sized, open_formed}
 use Rattle.areas.specs.Answers.{verdict}
 use Rattle.areas.specs.Entry.{called_closed, called_refused, called_passed}
@@ -15,16 +16,16 @@ pub returns-then-not-is_open : goal.returns-then-not-is_open
 unfolding call_lock_write
 returns-then-not-is_open c = called_closed _ _ _ _ _ c.requires (sym c.is_open.ensures ∙ not-true _ c.if-not-is_open.true-raw)
 
-pub lock_check-k-requires : goal.lock_check-k-requires
-lock_check-k-requires c = let o = open_formed _ _ c.requires (eqb-true _ _ (sym c.is_open.ensures ∙ not-false _ c.if-not-is_open.false-raw)) in let z = o.sized in ((z.top, omega arith), open_clients _ _ o)
+pub lock_check-requires : goal.lock_check-requires
+lock_check-requires c = let o = open_formed _ _ c.requires (eqb-true _ _ (sym c.is_open.ensures ∙ not-false _ c.if-not-is_open.false-raw)) in let z = o.sized in ((z.top, omega arith), open_clients _ _ o)
 
 pub let_write-requires : goal.let_write-requires
-let_write-requires c = let h = formed_sized _ _ c.requires in let f = lock_passed _ _ _ _ _ (sym c.lock_check-k.ensures ∙ c.in-Accept.is) in (h.tables, f.1, omega arith)
+let_write-requires c = let h = formed_sized _ _ c.requires in let f = lock_passed _ _ _ _ _ (sym c.in_ok-lock_check.ensures) in (h.tables, f.1, omega arith)
 
-pub returns-in-Refuse : goal.returns-in-Refuse
+pub returns-in_err-lock_check : goal.returns-in_err-lock_check
 unfolding call_lock_write
-returns-in-Refuse c = called_refused _ _ _ _ _ _ c.requires (sym c.is_open.ensures ∙ not-false _ c.if-not-is_open.false-raw) (sym c.in-Refuse.is ∙ c.lock_check-k.ensures ∙ ap verdict (lock_write_as _ _ _ _))
+returns-in_err-lock_check c = let p = err_from_is_err_and c.from_residual.result c.from_residual.ensures.1 in rw (p.1, p.2) (called_refused _ _ _ _ _ _ c.requires (sym c.is_open.ensures ∙ not-false _ c.if-not-is_open.false-raw) (c.in_err-lock_check.ensures ∙ ap verdict (lock_write_as _ _ _ _)))
 
-pub returns-in-Accept : goal.returns-in-Accept
+pub returns : goal.returns
 unfolding call_lock_write
-returns-in-Accept c = rw c.let_write.ensures (called_passed _ _ _ _ _ c.requires (sym c.is_open.ensures ∙ not-false _ c.if-not-is_open.false-raw) (sym c.in-Accept.is ∙ c.lock_check-k.ensures ∙ ap verdict (lock_write_as _ _ _ _)))
+returns c = rw c.let_write.ensures (called_passed _ _ _ _ _ c.requires (sym c.is_open.ensures ∙ not-false _ c.if-not-is_open.false-raw) (c.in_ok-lock_check.ensures ∙ ap verdict (lock_write_as _ _ _ _)))

@@ -20,11 +20,11 @@ may_lock-requires c = let h = page_range c.args.n c.args.t c.args.p (not-false _
 pub returns-then-not-may_lock : goal.returns-then-not-may_lock
 returns-then-not-may_lock c = lock_unright _ _ _ _ _ (not-false _ c.if-not-t-page.false-raw) (sym c.has.ensures ∙ not-false _ c.if-not-has.false-raw) (right_asked _ _ _ _ c.args.writing c.right_for.ensures c.may_lock.ensures ∙ not-true _ c.if-not-may_lock.true-raw)
 
-pub way_to-way-requires : goal.way_to-way-requires
-way_to-way-requires c = let h = page_range c.args.n c.args.t c.args.p (not-false _ c.if-not-t-page.false-raw) in omega arith
+pub way_to-requires : goal.way_to-requires
+way_to-requires c = let h = page_range c.args.n c.args.t c.args.p (not-false _ c.if-not-t-page.false-raw) in omega arith
 
-pub returns-in-Clear : goal.returns-in-Clear
-returns-in-Clear c = ap answer_to (sym c.in-Clear.is) ∙ lock_answer _ _ _ _ _ (not-false _ c.if-not-t-page.false-raw) (sym c.has.ensures ∙ not-false _ c.if-not-has.false-raw) (right_asked _ _ _ _ c.args.writing c.right_for.ensures c.may_lock.ensures ∙ not-false _ c.if-not-may_lock.false-raw) c.way_to-way.ensures
+pub returns-in-None : goal.returns-in-None
+returns-in-None c = ap answer_to (sym c.in-None.is) ∙ lock_answer _ _ _ _ _ (not-false _ c.if-not-t-page.false-raw) (sym c.has.ensures ∙ not-false _ c.if-not-has.false-raw) (right_asked _ _ _ _ c.args.writing c.right_for.ensures c.may_lock.ensures ∙ not-false _ c.if-not-may_lock.false-raw) c.way_to.ensures
 
-pub returns-in-Barred : goal.returns-in-Barred
-returns-in-Barred c = ap answer_to (sym c.in-Barred.is) ∙ lock_answer _ _ _ _ _ (not-false _ c.if-not-t-page.false-raw) (sym c.has.ensures ∙ not-false _ c.if-not-has.false-raw) (right_asked _ _ _ _ c.args.writing c.right_for.ensures c.may_lock.ensures ∙ not-false _ c.if-not-may_lock.false-raw) c.way_to-way.ensures
+pub returns-in-Some : goal.returns-in-Some
+returns-in-Some c = ap answer_to (sym c.in-Some.is) ∙ lock_answer _ _ _ _ _ (not-false _ c.if-not-t-page.false-raw) (sym c.has.ensures ∙ not-false _ c.if-not-has.false-raw) (right_asked _ _ _ _ c.args.writing c.right_for.ensures c.may_lock.ensures ∙ not-false _ c.if-not-may_lock.false-raw) c.way_to.ensures

@@ -1,3 +1,4 @@
+use Rattle.std.proofs.lemmas.Result.{err_from_is_err_and}
 use native.Mathlib.Omega.{arith}
 use Rattle.acceptance.specs.Entered.{formed_sized, open_formed}
 use Rattle.areas.specs.Areas.{done}
@@ -16,16 +17,16 @@ pub returns-then-not-is_open : goal.returns-then-not-is_open
 unfolding call_back
 returns-then-not-is_open c = called_closed _ _ _ _ _ c.requires (sym c.is_open.ensures ∙ not-true _ c.if-not-is_open.true-raw)
 
-pub back_check-k-requires : goal.back_check-k-requires
-back_check-k-requires c = let o = open_formed _ _ c.requires (eqb-true _ _ (sym c.is_open.ensures ∙ not-false _ c.if-not-is_open.false-raw)) in record { kept = open_kept _ _ o; has_undoing = open_undoing _ _ o }
+pub back_check-requires : goal.back_check-requires
+back_check-requires c = let o = open_formed _ _ c.requires (eqb-true _ _ (sym c.is_open.ensures ∙ not-false _ c.if-not-is_open.false-raw)) in record { kept = open_kept _ _ o; has_undoing = open_undoing _ _ o }
 
 pub back_apply-requires : goal.back_apply-requires
-back_apply-requires c = back_ready _ _ _ _ (open_formed _ _ c.requires (eqb-true _ _ (sym c.is_open.ensures ∙ not-false _ c.if-not-is_open.false-raw))) (sym (back_as _ _ _ _ _ _ _ _ _ c.back_check-k.ensures) ∙ c.in-Accept.is)
+back_apply-requires c = back_ready _ _ _ _ (open_formed _ _ c.requires (eqb-true _ _ (sym c.is_open.ensures ∙ not-false _ c.if-not-is_open.false-raw))) (sym (back_as _ _ _ _ _ _ _ _ _ c.in_ok-back_check.ensures))
 
-pub returns-in-Refuse : goal.returns-in-Refuse
+pub returns-in_err-back_check : goal.returns-in_err-back_check
 unfolding call_back
-returns-in-Refuse c = called_refused _ _ _ _ _ _ c.requires (sym c.is_open.ensures ∙ not-false _ c.if-not-is_open.false-raw) (sym c.in-Refuse.is ∙ back_as _ _ _ _ _ _ _ _ _ c.back_check-k.ensures)
+returns-in_err-back_check c = let p = err_from_is_err_and c.from_residual.result c.from_residual.ensures.1 in rw (p.1, p.2) (called_refused _ _ _ _ _ _ c.requires (sym c.is_open.ensures ∙ not-false _ c.if-not-is_open.false-raw) (back_as _ _ _ _ _ _ _ _ _ c.in_err-back_check.ensures))
 
-pub returns-in-Accept : goal.returns-in-Accept
+pub returns : goal.returns
 unfolding call_back
-returns-in-Accept c = ap (done 0) (c.back_apply.ensures _ _) ∙ called_passed _ _ _ _ _ c.requires (sym c.is_open.ensures ∙ not-false _ c.if-not-is_open.false-raw) (sym c.in-Accept.is ∙ back_as _ _ _ _ _ _ _ _ _ c.back_check-k.ensures)
+returns c = ap (done 0) (c.back_apply.ensures _ _) ∙ called_passed _ _ _ _ _ c.requires (sym c.is_open.ensures ∙ not-false _ c.if-not-is_open.false-raw) (back_as _ _ _ _ _ _ _ _ _ c.in_ok-back_check.ensures)

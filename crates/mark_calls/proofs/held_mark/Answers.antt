@@ -1,3 +1,4 @@
+use Rattle.std.proofs.lemmas.Result.{err_from_is_err_and}
 use native.Mathlib.Omega.{arith}
 use Rattle.acceptance.specs.Entered.{formed_sized, open_formed}
 use Rattle.areas.specs.Areas.{done}
@@ -15,16 +16,16 @@ pub returns-then-not-is_open : goal.returns-then-not-is_open
 unfolding call_mark
 returns-then-not-is_open c = called_closed _ _ _ _ _ c.requires (sym c.is_open.ensures ∙ not-true _ c.if-not-is_open.true-raw)
 
-pub mark_check-k-requires : goal.mark_check-k-requires
-mark_check-k-requires c = let h = formed_sized _ _ c.requires in omega arith
+pub mark_check-requires : goal.mark_check-requires
+mark_check-requires c = let h = formed_sized _ _ c.requires in omega arith
 
 pub mark_apply-requires : goal.mark_apply-requires
-mark_apply-requires c = record { kept = (mark_ready _ _ _ _ (open_formed _ _ c.requires (eqb-true _ _ (sym c.is_open.ensures ∙ not-false _ c.if-not-is_open.false-raw))) (sym (mark_as _ _ _ _ _ _ _ _ c.mark_check-k.ensures) ∙ c.in-Accept.is)).0; has_undoing = (mark_ready _ _ _ _ (open_formed _ _ c.requires (eqb-true _ _ (sym c.is_open.ensures ∙ not-false _ c.if-not-is_open.false-raw))) (sym (mark_as _ _ _ _ _ _ _ _ c.mark_check-k.ensures) ∙ c.in-Accept.is)).1 }
+mark_apply-requires c = record { kept = (mark_ready _ _ _ _ (open_formed _ _ c.requires (eqb-true _ _ (sym c.is_open.ensures ∙ not-false _ c.if-not-is_open.false-raw))) (sym (mark_as _ _ _ _ _ _ _ _ c.in_ok-mark_check.ensures))).0; has_undoing = (mark_ready _ _ _ _ (open_formed _ _ c.requires (eqb-true _ _ (sym c.is_open.ensures ∙ not-false _ c.if-not-is_open.false-raw))) (sym (mark_as _ _ _ _ _ _ _ _ c.in_ok-mark_check.ensures))).1 }
 
-pub returns-in-Refuse : goal.returns-in-Refuse
+pub returns-in_err-mark_check : goal.returns-in_err-mark_check
 unfolding call_mark
-returns-in-Refuse c = called_refused _ _ _ _ _ _ c.requires (sym c.is_open.ensures ∙ not-false _ c.if-not-is_open.false-raw) (sym c.in-Refuse.is ∙ mark_as _ _ _ _ _ _ _ _ c.mark_check-k.ensures)
+returns-in_err-mark_check c = let p = err_from_is_err_and c.from_residual.result c.from_residual.ensures.1 in rw (p.1, p.2) (called_refused _ _ _ _ _ _ c.requires (sym c.is_open.ensures ∙ not-false _ c.if-not-is_open.false-raw) (mark_as _ _ _ _ _ _ _ _ c.in_err-mark_check.ensures))
 
-pub returns-in-Accept : goal.returns-in-Accept
+pub returns : goal.returns
 unfolding call_mark
-returns-in-Accept c = ap (done 0) (c.mark_apply.ensures _ _ _) ∙ called_passed _ _ _ _ _ c.requires (sym c.is_open.ensures ∙ not-false _ c.if-not-is_open.false-raw) (sym c.in-Accept.is ∙ mark_as _ _ _ _ _ _ _ _ c.mark_check-k.ensures)
+returns c = ap (done 0) (c.mark_apply.ensures _ _ _) ∙ called_passed _ _ _ _ _ c.requires (sym c.is_open.ensures ∙ not-false _ c.if-not-is_open.false-raw) (mark_as _ _ _ _ _ _ _ _ c.in_ok-mark_check.ensures)

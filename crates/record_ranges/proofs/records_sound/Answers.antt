@@ -1,23 +1,17 @@
-use Rattle.std.proofs.Common.{◌-◌, arith}
+use Rattle.std.proofs.Common.{arith}
 use Rattle.record_ranges.specs.Ranges.{clean_none, clean_next, clean_end, rows_sound, Words}
 use Rattle.record_ranges.proofs.records_sound.Goals as goal
 
 pub loop-i-init : goal.loop-i-init
-loop-i-init c = (omega arith, clean_none _ _)
-
-pub overflow_step-i : goal.overflow_step-i
-overflow_step-i c = omega (arith, c.loop-i-test.true, c.ranges)
+loop-i-init c = clean_none _ _
 
 pub loop-i-preserved : goal.loop-i-preserved
 loop-i-preserved c =
-    let l = c.loop-i in
     let r = c.record_at-r.result in
     let w : Words c.args.n r.txn r.old r.new = record { pages_from = c.requires.1; pages_to = c.requires.2; txn = omega arith; old = omega arith; new = omega arith } in
-    let s = rows_sound _ r _ _ _ _ w c.lows-low.ensures c.spans-span.ensures c.barred_bits-barred.ensures c.row_of-k.ensures in (
-      omega (arith, c.loop-i-test.true),
-      clean_next _ _ _ _ _ _ _ _ _ _ _ _ _ _ r _ _ _ _ c.record_at-r.ensures l.invariant.1 s
-          (c.outside-f0.ensures, c.outside-f1.ensures, c.outside-f2.ensures, c.outside-f3.ensures, c.strays-f4.ensures),
-    )
+    let s = rows_sound _ r _ _ w c.rows-rows.ensures c.row_of.ensures in
+    clean_next _ _ _ _ _ _ _ _ _ _ _ _ _ _ r _ c.record_at-r.ensures c.loop-i.invariant s
+    (c.outside-f0.ensures, c.outside-f1.ensures, c.outside-f2.ensures, c.outside-f3.ensures, c.strays-f4.ensures)
 
 pub returns : goal.returns
-returns c = clean_end _ _ _ _ _ _ _ _ _ _ c.loop-i.invariant.1 (omega arith)
+returns c = clean_end _ _ _ _ _ _ _ _ _ _ c.loop-i.invariant (omega arith)

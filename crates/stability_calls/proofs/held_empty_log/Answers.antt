@@ -1,3 +1,4 @@
+use Rattle.std.proofs.lemmas.Result.{err_from_is_err_and}
 use mathlib.Core.Path.{sym, ap, ◌∙◌}
 use native.Mathlib.Omega.{arith}
 use borrow.Author.Tests.{not-true, not-false}
@@ -15,16 +16,16 @@ pub returns-then-not-is_open : goal.returns-then-not-is_open
 unfolding call_empty
 returns-then-not-is_open c = called_closed _ _ _ _ _ c.requires (sym c.is_open.ensures ∙ not-true _ c.if-not-is_open.true-raw)
 
-pub empty_check-k-requires : goal.empty_check-k-requires
-empty_check-k-requires c = let h = formed_sized _ _ c.requires in (omega arith, omega arith, omega arith)
+pub empty_check-requires : goal.empty_check-requires
+empty_check-requires c = let h = formed_sized _ _ c.requires in (omega arith, omega arith, omega arith)
 
 pub empty-requires : goal.empty-requires
 empty-requires c = let h = formed_sized _ _ c.requires in (omega arith, h.undoing)
 
-pub returns-in-Refuse : goal.returns-in-Refuse
+pub returns-in_err-empty_check : goal.returns-in_err-empty_check
 unfolding call_empty
-returns-in-Refuse c = called_refused _ _ _ _ _ _ c.requires (sym c.is_open.ensures ∙ not-false _ c.if-not-is_open.false-raw) (sym c.in-Refuse.is ∙ c.empty_check-k.ensures ∙ ap verdict (empty_as _))
+returns-in_err-empty_check c = let p = err_from_is_err_and c.from_residual.result c.from_residual.ensures.1 in rw (p.1, p.2) (called_refused _ _ _ _ _ _ c.requires (sym c.is_open.ensures ∙ not-false _ c.if-not-is_open.false-raw) (c.in_err-empty_check.ensures ∙ ap verdict (empty_as _)))
 
-pub returns-in-Accept : goal.returns-in-Accept
+pub returns : goal.returns
 unfolding call_empty
-returns-in-Accept c = rw (c.empty.ensures.0, c.empty.ensures.1) (called_passed _ _ _ _ _ c.requires (sym c.is_open.ensures ∙ not-false _ c.if-not-is_open.false-raw) (sym c.in-Accept.is ∙ c.empty_check-k.ensures ∙ ap verdict (empty_as _)))
+returns c = rw (c.empty.ensures.0, c.empty.ensures.1) (called_passed _ _ _ _ _ c.requires (sym c.is_open.ensures ∙ not-false _ c.if-not-is_open.false-raw) (c.in_ok-empty_check.ensures ∙ ap verdict (empty_as _)))

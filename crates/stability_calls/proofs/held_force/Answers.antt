@@ -1,3 +1,4 @@
+use Rattle.std.proofs.lemmas.Result.{err_from_is_err_and}
 use Rattle.acceptance.specs.Entered.{formed_sized}
 use Rattle.acceptance.specs.Stability.{force_facts}
 use Rattle.areas.specs.Answers.{verdict}
@@ -16,16 +17,16 @@ pub returns-then-not-is_open : goal.returns-then-not-is_open
 unfolding call_force
 returns-then-not-is_open c = called_closed _ _ _ _ _ c.requires (sym c.is_open.ensures ∙ not-true _ c.if-not-is_open.true-raw)
 
-pub force_check-k-requires : goal.force_check-k-requires
-force_check-k-requires c = let h = formed_sized _ _ c.requires in omega arith
+pub force_check-requires : goal.force_check-requires
+force_check-requires c = let h = formed_sized _ _ c.requires in omega arith
 
 pub raise_stable-requires : goal.raise_stable-requires
-raise_stable-requires c = let h = formed_sized _ _ c.requires in let f = force_facts _ (sym c.force_check-k.ensures ∙ c.in-Accept.is) in (omega arith, f.unstable)
+raise_stable-requires c = let h = formed_sized _ _ c.requires in let f = force_facts _ (sym c.in_ok-force_check.ensures) in (omega arith, f.unstable)
 
-pub returns-in-Refuse : goal.returns-in-Refuse
+pub returns-in_err-force_check : goal.returns-in_err-force_check
 unfolding call_force
-returns-in-Refuse c = called_refused _ _ _ _ _ _ c.requires (sym c.is_open.ensures ∙ not-false _ c.if-not-is_open.false-raw) (sym c.in-Refuse.is ∙ c.force_check-k.ensures ∙ ap verdict (force_as _))
+returns-in_err-force_check c = let p = err_from_is_err_and c.from_residual.result c.from_residual.ensures.1 in rw (p.1, p.2) (called_refused _ _ _ _ _ _ c.requires (sym c.is_open.ensures ∙ not-false _ c.if-not-is_open.false-raw) (c.in_err-force_check.ensures ∙ ap verdict (force_as _)))
 
-pub returns-in-Accept : goal.returns-in-Accept
+pub returns : goal.returns
 unfolding call_force
-returns-in-Accept c = rw (c.raise_stable.ensures.0, c.raise_stable.ensures.1) (called_passed _ _ _ _ _ c.requires (sym c.is_open.ensures ∙ not-false _ c.if-not-is_open.false-raw) (sym c.in-Accept.is ∙ c.force_check-k.ensures ∙ ap verdict (force_as _)))
+returns c = rw (c.raise_stable.ensures.0, c.raise_stable.ensures.1) (called_passed _ _ _ _ _ c.requires (sym c.is_open.ensures ∙ not-false _ c.if-not-is_open.false-raw) (c.in_ok-force_check.ensures ∙ ap verdict (force_as _)))

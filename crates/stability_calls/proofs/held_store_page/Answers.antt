@@ -1,3 +1,4 @@
+use Rattle.std.proofs.lemmas.Result.{err_from_is_err_and}
 use Rattle.acceptance.specs.Entered.{formed_sized, open_formed}
 use Rattle.acceptance.specs.Stability.{store_facts}
 use Rattle.areas.specs.Answers.{verdict}
@@ -16,16 +17,16 @@ pub returns-then-not-is_open : goal.returns-then-not-is_open
 unfolding call_store
 returns-then-not-is_open c = called_closed _ _ _ _ _ c.requires (sym c.is_open.ensures ∙ not-true _ c.if-not-is_open.true-raw)
 
-pub store_check-k-requires : goal.store_check-k-requires
-store_check-k-requires c = let h = open_formed _ _ c.requires (eqb-true _ _ (sym c.is_open.ensures ∙ not-false _ c.if-not-is_open.false-raw)) in (omega arith, omega arith, omega arith, omega arith, h.ranged.records_sound_law)
+pub store_check-requires : goal.store_check-requires
+store_check-requires c = let h = open_formed _ _ c.requires (eqb-true _ _ (sym c.is_open.ensures ∙ not-false _ c.if-not-is_open.false-raw)) in (omega arith, omega arith, omega arith, omega arith, h.ranged.records_sound_law)
 
 pub copy_page-requires : goal.copy_page-requires
-copy_page-requires c = let h = formed_sized _ _ c.requires in let f = store_facts _ _ _ (sym c.store_check-k.ensures ∙ c.in-Accept.is) in (omega arith, omega arith)
+copy_page-requires c = let h = formed_sized _ _ c.requires in let f = store_facts _ _ _ (sym c.in_ok-store_check.ensures) in (omega arith, omega arith)
 
-pub returns-in-Refuse : goal.returns-in-Refuse
+pub returns-in_err-store_check : goal.returns-in_err-store_check
 unfolding call_store
-returns-in-Refuse c = called_refused _ _ _ _ _ _ c.requires (sym c.is_open.ensures ∙ not-false _ c.if-not-is_open.false-raw) (sym c.in-Refuse.is ∙ c.store_check-k.ensures ∙ ap verdict (store_as _ _ _))
+returns-in_err-store_check c = let p = err_from_is_err_and c.from_residual.result c.from_residual.ensures.1 in rw (p.1, p.2) (called_refused _ _ _ _ _ _ c.requires (sym c.is_open.ensures ∙ not-false _ c.if-not-is_open.false-raw) (c.in_err-store_check.ensures ∙ ap verdict (store_as _ _ _)))
 
-pub returns-in-Accept : goal.returns-in-Accept
+pub returns : goal.returns
 unfolding call_store
-returns-in-Accept c = rw c.copy_page.ensures (called_passed _ _ _ _ _ c.requires (sym c.is_open.ensures ∙ not-false _ c.if-not-is_open.false-raw) (sym c.in-Accept.is ∙ c.store_check-k.ensures ∙ ap verdict (store_as _ _ _)))
+returns c = rw c.copy_page.ensures (called_passed _ _ _ _ _ c.requires (sym c.is_open.ensures ∙ not-false _ c.if-not-is_open.false-raw) (c.in_ok-store_check.ensures ∙ ap verdict (store_as _ _ _)))

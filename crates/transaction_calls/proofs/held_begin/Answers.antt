@@ -1,3 +1,4 @@
+use Rattle.std.proofs.lemmas.Result.{err_from_is_err_and}
 use Rattle.acceptance.specs.Entered.{formed_sized, open_formed}
 use Rattle.areas.specs.Entry.{called_closed, called_refused, called_passed}
 use Rattle.calls.specs.Transactions.{call_begin}
@@ -15,16 +16,16 @@ pub returns-then-not-is_open : goal.returns-then-not-is_open
 unfolding call_begin
 returns-then-not-is_open c = called_closed _ _ _ _ _ c.requires (sym c.is_open.ensures ∙ not-true _ c.if-not-is_open.true-raw)
 
-pub begin_check-k-requires : goal.begin_check-k-requires
-begin_check-k-requires c = let o = open_formed _ _ c.requires (eqb-true _ _ (sym c.is_open.ensures ∙ not-false _ c.if-not-is_open.false-raw)) in record { kept = open_kept _ _ o; has_undoing = open_undoing _ _ o }
+pub begin_check-requires : goal.begin_check-requires
+begin_check-requires c = let o = open_formed _ _ c.requires (eqb-true _ _ (sym c.is_open.ensures ∙ not-false _ c.if-not-is_open.false-raw)) in record { kept = open_kept _ _ o; has_undoing = open_undoing _ _ o }
 
 pub begin_apply-requires : goal.begin_apply-requires
-begin_apply-requires c = record { fits = (begin_ready _ _ _ _ (open_formed _ _ c.requires (eqb-true _ _ (sym c.is_open.ensures ∙ not-false _ c.if-not-is_open.false-raw))) (sym (begin_as _ _ _ _ _ _ _ _ _ c.begin_check-k.ensures) ∙ c.in-Accept.is)).0; has_undoing = (begin_ready _ _ _ _ (open_formed _ _ c.requires (eqb-true _ _ (sym c.is_open.ensures ∙ not-false _ c.if-not-is_open.false-raw))) (sym (begin_as _ _ _ _ _ _ _ _ _ c.begin_check-k.ensures) ∙ c.in-Accept.is)).1 }
+begin_apply-requires c = record { fits = (begin_ready _ _ _ _ (open_formed _ _ c.requires (eqb-true _ _ (sym c.is_open.ensures ∙ not-false _ c.if-not-is_open.false-raw))) (sym (begin_as _ _ _ _ _ _ _ _ _ c.in_ok-begin_check.ensures))).0; has_undoing = (begin_ready _ _ _ _ (open_formed _ _ c.requires (eqb-true _ _ (sym c.is_open.ensures ∙ not-false _ c.if-not-is_open.false-raw))) (sym (begin_as _ _ _ _ _ _ _ _ _ c.in_ok-begin_check.ensures))).1 }
 
-pub returns-in-Refuse : goal.returns-in-Refuse
+pub returns-in_err-begin_check : goal.returns-in_err-begin_check
 unfolding call_begin
-returns-in-Refuse c = called_refused _ _ _ _ _ _ c.requires (sym c.is_open.ensures ∙ not-false _ c.if-not-is_open.false-raw) (sym c.in-Refuse.is ∙ begin_as _ _ _ _ _ _ _ _ _ c.begin_check-k.ensures)
+returns-in_err-begin_check c = let p = err_from_is_err_and c.from_residual.result c.from_residual.ensures.1 in rw (p.1, p.2) (called_refused _ _ _ _ _ _ c.requires (sym c.is_open.ensures ∙ not-false _ c.if-not-is_open.false-raw) (begin_as _ _ _ _ _ _ _ _ _ c.in_err-begin_check.ensures))
 
-pub returns-in-Accept : goal.returns-in-Accept
+pub returns : goal.returns
 unfolding call_begin
-returns-in-Accept c = c.begin_apply.ensures _ _ ∙ called_passed _ _ _ _ _ c.requires (sym c.is_open.ensures ∙ not-false _ c.if-not-is_open.false-raw) (sym c.in-Accept.is ∙ begin_as _ _ _ _ _ _ _ _ _ c.begin_check-k.ensures)
+returns c = c.begin_apply.ensures _ _ ∙ called_passed _ _ _ _ _ c.requires (sym c.is_open.ensures ∙ not-false _ c.if-not-is_open.false-raw) (begin_as _ _ _ _ _ _ _ _ _ c.in_ok-begin_check.ensures)

@@ -31,26 +31,26 @@ bounds-work-undoing_at c = let l = going_inside _ _ _ _ _ _ _ _ _ _ _ _ _ _ c.re
 pub turn_at-turn-requires : goal.turn_at-turn-requires
 turn_at-turn-requires c = let l = going_inside _ _ _ _ _ _ _ _ _ _ _ _ _ _ c.requires c.loop-left.invariant c.loop-left-test.true in omega arith
 
-pub loop-left-smaller-in-Past : goal.loop-left-smaller-in-Past
-loop-left-smaller-in-Past c = let h = going_some _ _ _ _ _ _ _ _ _ _ _ _ _ _ c.requires c.loop-left.invariant c.loop-left-test.true in omega arith
+pub loop-left-smaller-in-Some : goal.loop-left-smaller-in-Some
+loop-left-smaller-in-Some c = let h = going_some _ _ _ _ _ _ _ _ _ _ _ _ _ _ c.requires c.loop-left.invariant c.loop-left-test.true in omega arith
 
-pub loop-left-preserved-in-Past : goal.loop-left-preserved-in-Past
-loop-left-preserved-in-Past c = going_past _ _ _ _ _ _ _ _ _ _ _ _ _ _ c.requires c.loop-left.invariant c.loop-left-test.true _ _ c.record_at-r.ensures c.undoing_at.ensures _ (sym c.turn_at-turn.ensures ∙ c.in-Past.is)
+pub loop-left-preserved-in-Some : goal.loop-left-preserved-in-Some
+loop-left-preserved-in-Some c = going_past _ _ _ _ _ _ _ _ _ _ _ _ _ _ c.requires c.loop-left.invariant c.loop-left-test.true _ _ c.record_at-r.ensures c.undoing_at.ensures _ (sym c.turn_at-turn.ensures ∙ c.in-Some.is)
 
-pub bounds-counts-0-in-Left : goal.bounds-counts-0-in-Left
-bounds-counts-0-in-Left c = let h = c.loop-left.invariant.counts_len in let k = c.requires.kept.two in omega arith
+pub bounds-counts-0-in-None : goal.bounds-counts-0-in-None
+bounds-counts-0-in-None c = let h = c.loop-left.invariant.counts_len in let k = c.requires.kept.two in omega arith
 
 pub note_back-requires : goal.note_back-requires
-note_back-requires c = let h = going_ready _ _ _ _ _ _ _ _ _ _ _ _ _ _ c.requires c.loop-left.invariant c.loop-left-test.true _ _ c.record_at-r.ensures c.undoing_at.ensures (sym c.turn_at-turn.ensures ∙ c.in-Left.is) in let l = going_inside _ _ _ _ _ _ _ _ _ _ _ _ _ _ c.requires c.loop-left.invariant c.loop-left-test.true in (omega arith, h.object, omega arith, h.txn)
+note_back-requires c = let h = going_ready _ _ _ _ _ _ _ _ _ _ _ _ _ _ c.requires c.loop-left.invariant c.loop-left-test.true _ _ c.record_at-r.ensures c.undoing_at.ensures (sym c.turn_at-turn.ensures ∙ c.in-None.is) in let l = going_inside _ _ _ _ _ _ _ _ _ _ _ _ _ _ c.requires c.loop-left.invariant c.loop-left-test.true in (omega arith, h.object, omega arith, h.txn)
 
 pub append-requires : goal.append-requires
-append-requires c = rw c.undoing.ensures (going_ready _ _ _ _ _ _ _ _ _ _ _ _ _ _ c.requires c.loop-left.invariant c.loop-left-test.true _ _ c.record_at-r.ensures c.undoing_at.ensures (sym c.turn_at-turn.ensures ∙ c.in-Left.is)).fits
+append-requires c = rw c.undoing.ensures (going_ready _ _ _ _ _ _ _ _ _ _ _ _ _ _ c.requires c.loop-left.invariant c.loop-left-test.true _ _ c.record_at-r.ensures c.undoing_at.ensures (sym c.turn_at-turn.ensures ∙ c.in-None.is)).fits
 
 pub loop-left-smaller : goal.loop-left-smaller
 loop-left-smaller c = let h = going_some _ _ _ _ _ _ _ _ _ _ _ _ _ _ c.requires c.loop-left.invariant c.loop-left-test.true in omega arith
 
 pub loop-left-preserved : goal.loop-left-preserved
-loop-left-preserved c = let k = c.append.auto in going_left _ _ _ _ _ _ _ _ _ _ _ _ _ _ c.requires c.loop-left.invariant c.loop-left-test.true _ _ c.record_at-r.ensures c.undoing_at.ensures (sym c.turn_at-turn.ensures ∙ c.in-Left.is) _ _ _ _ k.received k.log k.counts c.note_back.auto.work (change_undone _ _ _ _ _ _ _ _ _ _ _ _ _ c.undoing.ensures c.note_back.ensures c.append.ensures)
+loop-left-preserved c = let k = c.append.auto in going_left _ _ _ _ _ _ _ _ _ _ _ _ _ _ c.requires c.loop-left.invariant c.loop-left-test.true _ _ c.record_at-r.ensures c.undoing_at.ensures (sym c.turn_at-turn.ensures ∙ c.in-None.is) _ _ _ _ k.received k.log k.counts c.note_back.auto.work (change_undone _ _ _ _ _ _ _ _ _ _ _ _ _ c.undoing.ensures c.note_back.ensures c.append.ensures)
 
 pub shape_of-received : goal.shape_of-received
 shape_of-received c = c.loop-left.invariant.pages_len

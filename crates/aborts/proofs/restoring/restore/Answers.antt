@@ -1,6 +1,5 @@
 use native.Mathlib.Omega.{arith}
 use mathlib.Core.Path.{◌≡◌, ◌∙◌, refl}
-use Prim.Native.Nat.{◌-◌}
 use Rattle.calls.specs.Transactions.{restored}
 use Rattle.aborts.specs.Aborts.{restored_next}
 use Rattle.aborts.proofs.restoring.restore.Goals as goal

@@ -31,19 +31,19 @@ pub turn_at-turn-requires : goal.turn_at-turn-requires
 turn_at-turn-requires c = (rolling_inside _ _ _ _ _ _ _ _ _ _ _ _ c.requires c.loop-left.invariant c.loop-left-test.true).3
 
 pub append-requires : goal.append-requires
-append-requires c = rolling_fits _ _ _ _ _ _ _ _ _ _ _ _ c.requires c.loop-left.invariant c.loop-left-test.true _ c.record_at-r.ensures _ (rw c.undoing_at.ensures at c.turn_at-turn.ensures) _ c.undoing.ensures c.in-Left.is
+append-requires c = rolling_fits _ _ _ _ _ _ _ _ _ _ _ _ c.requires c.loop-left.invariant c.loop-left-test.true _ c.record_at-r.ensures _ (rw c.undoing_at.ensures at c.turn_at-turn.ensures) _ c.undoing.ensures c.in-None.is
 
-pub loop-left-smaller-in-Left : goal.loop-left-smaller-in-Left
-loop-left-smaller-in-Left c = let p = rolling_some _ _ _ _ _ _ _ _ _ _ _ _ c.requires c.loop-left.invariant c.loop-left-test.true in omega arith
+pub loop-left-smaller-in-None : goal.loop-left-smaller-in-None
+loop-left-smaller-in-None c = let p = rolling_some _ _ _ _ _ _ _ _ _ _ _ _ c.requires c.loop-left.invariant c.loop-left-test.true in omega arith
 
-pub loop-left-preserved-in-Left : goal.loop-left-preserved-in-Left
-loop-left-preserved-in-Left c = let k = c.append.auto in rolling_left _ _ _ _ _ _ _ _ _ _ _ _ c.requires c.loop-left.invariant c.loop-left-test.true _ c.record_at-r.ensures _ (rw c.undoing_at.ensures at c.turn_at-turn.ensures) _ c.undoing.ensures c.in-Left.is _ _ _ _ k.received k.log k.counts c.append.ensures
+pub loop-left-preserved-in-None : goal.loop-left-preserved-in-None
+loop-left-preserved-in-None c = let k = c.append.auto in rolling_left _ _ _ _ _ _ _ _ _ _ _ _ c.requires c.loop-left.invariant c.loop-left-test.true _ c.record_at-r.ensures _ (rw c.undoing_at.ensures at c.turn_at-turn.ensures) _ c.undoing.ensures c.in-None.is _ _ _ _ k.received k.log k.counts c.append.ensures
 
 pub loop-left-smaller : goal.loop-left-smaller
 loop-left-smaller c = let p = rolling_some _ _ _ _ _ _ _ _ _ _ _ _ c.requires c.loop-left.invariant c.loop-left-test.true in omega arith
 
 pub loop-left-preserved : goal.loop-left-preserved
-loop-left-preserved c = rolling_past _ _ _ _ _ _ _ _ _ _ _ _ c.requires c.loop-left.invariant c.loop-left-test.true _ c.record_at-r.ensures _ (rw c.undoing_at.ensures at c.turn_at-turn.ensures) _ c.in-Past.is
+loop-left-preserved c = rolling_past _ _ _ _ _ _ _ _ _ _ _ _ c.requires c.loop-left.invariant c.loop-left-test.true _ c.record_at-r.ensures _ (rw c.undoing_at.ensures at c.turn_at-turn.ensures) _ c.in-Some.is
 
 pub shape_of-received : goal.shape_of-received
 shape_of-received c = c.loop-left.invariant.pages_len

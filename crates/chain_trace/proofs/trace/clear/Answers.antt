@@ -1,25 +1,24 @@
-use Prim.Native.Nat.{ℕ, ◌+◌, ◌-◌, ◌≤◌}
+use Prim.Native.Nat.{ℕ, zero, suc, ◌+◌, ◌-◌, ◌≤◌}
 use native.Mathlib.Omega.{arith}
-use mathlib.Core.Path.{◌≡◌, refl, sym, ap, ◌∙◌}
+use native.Mathlib.Numerals.{add-one}
+use mathlib.Core.Path.{◌≡◌, sym, ap, ◌∙◌}
 use mathlib.Core.List.{List}
-use lib.ListN.{set, length-set}
+use lib.ListN.{length, replicate, set, length-replicate, length-take, length-drop}
+use lib.Seq.{paste, paste-zero}
+use Rattle.std.proofs.lemmas.List.Edits.{fill_from_more}
+use Rattle.std.proofs.lemmas.Slice.{put_mid-paste}
 use Rattle.words.specs.Spans.{fill}
-use Rattle.page_laws.specs.Runs.{fill_turn}
+use Rattle.calls.specs.Chains.{chain_words}
 use Rattle.chain_trace.proofs.trace.clear.Goals as goal
 
-start : (b : List ℕ) (d : ℕ) → b ≡ fill (λ k. 0) b d (d - d)
+zeros : (b : List ℕ) (d n : ℕ) → d + n ≤ length b → paste b d (replicate n 0) n ≡ fill (λ k. 0) b d n
 unfolding fill
-start b d = let e : d - d ≡ 0 = omega arith in rw e
-
-turn : (b : List ℕ) (d i : ℕ) (r : List ℕ) → d ≤ i → r ≡ fill (λ k. 0) b d (i - d) → set r i 0 ≡ fill (λ k. 0) b d (i + 1 - d)
-turn b d i r l e = let z : d + (i - d) ≡ i = omega arith in let y : i - d + 1 ≡ i + 1 - d = omega arith in
-    ap (λ (k : ℕ). set r k 0) (sym z) ∙ fill_turn (λ k. 0) b d (i - d) r e ∙ ap (fill (λ k. 0) b d) y
-
-pub loop-i-init : goal.loop-i-init
-loop-i-init c = (omega arith, c.requires.1, refl, start c.args.buffer.now c.args.d)
-
-pub loop-i-preserved : goal.loop-i-preserved
-loop-i-preserved c = let i = c.loop-i.invariant in (omega arith, omega arith, simp length-set i.2, turn c.args.buffer.now c.args.d c.loop-i.i c.loop-i.buffer i.0 i.3)
+zeros b d zero l = sym (paste-zero b d (replicate 0 0))
+zeros b d (suc n) l = ap (λ (k : ℕ). paste b d (replicate k 0) k) (sym (add-one n)) ∙ sym (fill_from_more b d n 0 (omega arith)) ∙ ap (λ (x : List ℕ). set x (d + n) 0) (zeros b d n (omega arith))
 
 pub returns : goal.returns
-returns c = let i = c.loop-i.invariant in i.3 ∙ ap (λ (k : ℕ). fill (λ k. 0) c.args.buffer.now c.args.d k) (omega arith)
+returns c =
+    let b = c.args.buffer.now in
+    let n = chain_words - c.args.d in
+    let r : c.fill.new.self ≡ replicate n 0 = c.fill.ensures.after (λ y e. e) ∙ ap (λ (k : ℕ). replicate k 0) (simp (length-take, length-drop) (omega arith)) in
+    put_mid-paste c.args.d (length b - c.args.d) b c.fill.new.self (replicate n 0) n r (omega arith) (sym (length-replicate n 0)) ∙ zeros b c.args.d n (omega arith)

@@ -7,6 +7,3 @@ use Rattle.chain_trace.proofs.trace.show.Given as goal
 
 abbrev pub invariant-loop-i : goal.invariant-loop-i
 invariant-loop-i l = (l.i ≤ l.d) × (length l.buffer ≡ length l.initial.buffer) × (l.buffer ≡ fill (λ k. get_or l.queue (l.d - 1 - k) 0) l.initial.buffer 0 l.i)
-
-abbrev pub decreases-loop-i : goal.decreases-loop-i
-decreases-loop-i l = l.d - l.i

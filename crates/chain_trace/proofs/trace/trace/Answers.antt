@@ -1,4 +1,3 @@
-use Prim.Native.Nat.{◌-◌}
 use native.Mathlib.Omega.{arith}
 use Rattle.chain_trace.proofs.Trailing.{trail_start, trail_low, trail_top, trail_room, trail_next, trail_done}
 use Rattle.chain_trace.proofs.trace.trace.Goals as goal

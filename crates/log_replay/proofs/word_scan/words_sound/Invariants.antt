@@ -1,4 +1,4 @@
-use Prim.Native.Nat.{◌≤◌, ◌-◌}
+use Prim.Native.Nat.{◌≤◌}
 use mathlib.Core.Bool.{true}
 use mathlib.Core.Path.{◌≡◌}
 use Rattle.words.specs.Tests.{all}
@@ -9,11 +9,5 @@ use Rattle.log_replay.proofs.word_scan.words_sound.Given as goal
 abbrev pub invariant-loop-w : goal.invariant-loop-w
 invariant-loop-w l = (l.w ≤ record_words) × (l.ok ≡ true) × (all (word_sound l.n l.r) l.w ≡ true)
 
-abbrev pub decreases-loop-w : goal.decreases-loop-w
-decreases-loop-w l = record_words - l.w
-
 abbrev pub invariant-records : goal.invariant-records
 invariant-records l = (l.i ≤ l.c) × (l.ok ≡ true) × (records_sound l.n l.log l.i ≡ true)
-
-abbrev pub decreases-records : goal.decreases-records
-decreases-records l = l.c - l.i

@@ -1,3 +1,4 @@
+use Rattle.std.proofs.lemmas.Result.{err_from_is_err_and}
 use Rattle.acceptance.specs.Entered.{formed_sized, open_formed}
 use Rattle.areas.specs.Answers.{verdict}
 use Rattle.areas.specs.Entry.{called_closed, called_refused, called_passed}
@@ -17,16 +18,16 @@ pub returns-then-not-is_open : goal.returns-then-not-is_open
 unfolding call_create
 returns-then-not-is_open c = called_closed _ _ _ _ _ c.requires (sym c.is_open.ensures ∙ not-true _ c.if-not-is_open.true-raw)
 
-pub create_check-k-requires : goal.create_check-k-requires
-create_check-k-requires c = let h = (open_formed _ _ c.requires (eqb-true _ _ (sym c.is_open.ensures ∙ not-false _ c.if-not-is_open.false-raw))) in let z = h.sized.received_len in record { n_in_bounds = (omega arith, open_undoing _ _ h); kept = open_kept _ _ h }
+pub create_check-requires : goal.create_check-requires
+create_check-requires c = let h = (open_formed _ _ c.requires (eqb-true _ _ (sym c.is_open.ensures ∙ not-false _ c.if-not-is_open.false-raw))) in let z = h.sized.received_len in record { n_in_bounds = (omega arith, open_undoing _ _ h); kept = open_kept _ _ h }
 
 pub create_apply-requires : goal.create_apply-requires
-create_apply-requires c = create_ready _ _ _ _ _ _ _ _ _ (open_formed _ _ c.requires (eqb-true _ _ (sym c.is_open.ensures ∙ not-false _ c.if-not-is_open.false-raw))) (sym c.create_check-k.ensures ∙ c.in-Accept.is)
+create_apply-requires c = create_ready _ _ _ _ _ _ _ _ _ (open_formed _ _ c.requires (eqb-true _ _ (sym c.is_open.ensures ∙ not-false _ c.if-not-is_open.false-raw))) (sym c.in_ok-create_check.ensures)
 
-pub returns-in-Refuse : goal.returns-in-Refuse
+pub returns-in_err-create_check : goal.returns-in_err-create_check
 unfolding call_create created
-returns-in-Refuse c = called_refused _ _ _ _ _ _ c.requires (sym c.is_open.ensures ∙ not-false _ c.if-not-is_open.false-raw) (sym c.in-Refuse.is ∙ c.create_check-k.ensures ∙ ap verdict (create_looks _ _ _ _ _ _ _ _ _))
+returns-in_err-create_check c = let p = err_from_is_err_and c.from_residual.result c.from_residual.ensures.1 in rw (p.1, p.2) (called_refused _ _ _ _ _ _ c.requires (sym c.is_open.ensures ∙ not-false _ c.if-not-is_open.false-raw) (c.in_err-create_check.ensures ∙ ap verdict (create_looks _ _ _ _ _ _ _ _ _)))
 
-pub returns-in-Accept : goal.returns-in-Accept
+pub returns : goal.returns
 unfolding call_create created
-returns-in-Accept c = let h = (open_formed _ _ c.requires (eqb-true _ _ (sym c.is_open.ensures ∙ not-false _ c.if-not-is_open.false-raw))) in let z = c.create_apply.ensures in appended_out _ _ _ _ _ _ _ _ _ _ _ _ _ h.sized.counts_len (z.0, z.1, z.2, z.3) z.4 ∙ called_passed _ _ _ _ _ c.requires (sym c.is_open.ensures ∙ not-false _ c.if-not-is_open.false-raw) (sym c.in-Accept.is ∙ c.create_check-k.ensures ∙ ap verdict (create_looks _ _ _ _ _ _ _ _ _))
+returns c = let h = (open_formed _ _ c.requires (eqb-true _ _ (sym c.is_open.ensures ∙ not-false _ c.if-not-is_open.false-raw))) in let z = c.create_apply.ensures in appended_out _ _ _ _ _ _ _ _ _ _ _ _ _ h.sized.counts_len (z.0, z.1, z.2, z.3) z.4 ∙ called_passed _ _ _ _ _ c.requires (sym c.is_open.ensures ∙ not-false _ c.if-not-is_open.false-raw) (c.in_ok-create_check.ensures ∙ ap verdict (create_looks _ _ _ _ _ _ _ _ _))

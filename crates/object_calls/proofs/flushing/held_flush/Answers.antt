@@ -1,3 +1,4 @@
+use Rattle.std.proofs.lemmas.Result.{err_from_is_err_and}
 use Rattle.acceptance.specs.Entered.{formed_sized, formed_own, open_formed}
 use Rattle.areas.specs.Answers.{verdict}
 use Rattle.areas.specs.Entry.{called_closed, called_refused, called_passed}
@@ -16,16 +17,16 @@ pub returns-then-not-is_open : goal.returns-then-not-is_open
 unfolding call_flush
 returns-then-not-is_open c = called_closed _ _ _ _ _ c.requires (sym c.is_open.ensures ∙ not-true _ c.if-not-is_open.true-raw)
 
-pub flush_check-k-requires : goal.flush_check-k-requires
-flush_check-k-requires c = let h = (open_formed _ _ c.requires (eqb-true _ _ (sym c.is_open.ensures ∙ not-false _ c.if-not-is_open.false-raw))) in let z = h.sized.received_len in (omega arith, h.sized.tables, own_fits c.args.image.now _ (formed_own _ _ c.requires))
+pub flush_check-requires : goal.flush_check-requires
+flush_check-requires c = let h = (open_formed _ _ c.requires (eqb-true _ _ (sym c.is_open.ensures ∙ not-false _ c.if-not-is_open.false-raw))) in let z = h.sized.received_len in (omega arith, h.sized.tables, own_fits c.args.image.now _ (formed_own _ _ c.requires))
 
 pub flush_apply-requires : goal.flush_apply-requires
-flush_apply-requires c = flush_ready _ _ _ _ _ _ _ _ _ _ (formed_sized _ _ c.requires) (sym c.flush_check-k.ensures ∙ c.in-Accept.is)
+flush_apply-requires c = flush_ready _ _ _ _ _ _ _ _ _ _ (formed_sized _ _ c.requires) (sym c.in_ok-flush_check.ensures)
 
-pub returns-in-Refuse : goal.returns-in-Refuse
+pub returns-in_err-flush_check : goal.returns-in_err-flush_check
 unfolding call_flush
-returns-in-Refuse c = called_refused _ _ _ _ _ _ c.requires (sym c.is_open.ensures ∙ not-false _ c.if-not-is_open.false-raw) (sym c.in-Refuse.is ∙ c.flush_check-k.ensures ∙ ap verdict (flush_looks _ _ _ _ _ _ _ _ _ _))
+returns-in_err-flush_check c = let p = err_from_is_err_and c.from_residual.result c.from_residual.ensures.1 in rw (p.1, p.2) (called_refused _ _ _ _ _ _ c.requires (sym c.is_open.ensures ∙ not-false _ c.if-not-is_open.false-raw) (c.in_err-flush_check.ensures ∙ ap verdict (flush_looks _ _ _ _ _ _ _ _ _ _)))
 
-pub returns-in-Accept : goal.returns-in-Accept
+pub returns : goal.returns
 unfolding call_flush
-returns-in-Accept c = flush_out _ _ _ _ _ _ _ _ _ _ _ c.flush_apply.ensures ∙ called_passed _ _ _ _ _ c.requires (sym c.is_open.ensures ∙ not-false _ c.if-not-is_open.false-raw) (sym c.in-Accept.is ∙ c.flush_check-k.ensures ∙ ap verdict (flush_looks _ _ _ _ _ _ _ _ _ _))
+returns c = flush_out _ _ _ _ _ _ _ _ _ _ _ c.flush_apply.ensures ∙ called_passed _ _ _ _ _ c.requires (sym c.is_open.ensures ∙ not-false _ c.if-not-is_open.false-raw) (c.in_ok-flush_check.ensures ∙ ap verdict (flush_looks _ _ _ _ _ _ _ _ _ _))

@@ -1,4 +1,3 @@
-use Prim.Native.Nat.{◌-◌}
 use Rattle.objects.specs.Reading.{learned_none, learned_next_law}
 use Rattle.pages.specs.Geometry.{slot_words}
 use mathlib.Core.Path.{◌≡◌, refl}

@@ -1,22 +1,20 @@
+use borrow.Author.Rules.{rules}
+use borrow.Author.Tests.{tests}
 use native.Mathlib.Omega.{arith}
-use Prim.Native.Nat.{◌-◌}
-use mathlib.Core.Path.{sym, ◌∙◌}
-use mathlib.Core.Bool.{true}
-use Rattle.words.specs.Tests.{all_none, all_more, all_out, all_end, and_t, and_f}
-use borrow.Author.Tests.{not-true, not-false}
+use mathlib.Core.Path.{◌≡◌, ◌∙◌, sym}
+use Rattle.std.proofs.lemmas.Iterator.{YieldsList-from_range}
+use Rattle.std.proofs.lemmas.Iterator.Search.{all_from_yields_List}
+use Rattle.words.specs.Tests.{all, and_t, and_f}
 use Rattle.pages.specs.Soundness.{page_sound, area_sound}
+use Rattle.page_check.specs.SoundLaws.{all_range}
 use Rattle.page_check.proofs.sound.area_sound.Goals as goal
 
-pub loop-p-init : goal.loop-p-init
-loop-p-init c = (omega arith, all_none _)
-
-pub returns-then-not-page_sound : goal.returns-then-not-page_sound
+pub returns-then-all : goal.returns-then-all
 unfolding area_sound
-returns-then-not-page_sound c = sym (and_f _ _ (sym (all_out _ _ _ c.loop-p-test.true (sym c.page_sound.ensures ∙ not-true _ c.if-not-page_sound.true-raw))))
+returns-then-all c = let e : c.all.result ≡ all (page_sound c.args.a.now c.args.n) c.args.n = all_from_yields_List (page_sound c.args.a.now c.args.n) _ _ _ c.all.ensures.ran (YieldsList-from_range 0 c.args.n c.args.n (cc) (omega arith)) (λ x b q k. search (rules, tests)) ∙ all_range _ _ in
+    c.has_bit.ensures ∙ sym (and_t _ _ (sym e ∙ c.if-all.true))
 
-pub loop-p-preserved : goal.loop-p-preserved
-loop-p-preserved c = (omega arith, all_more _ _ c.loop-p.invariant.1 (sym c.page_sound.ensures ∙ not-false _ c.if-not-page_sound.false-raw))
-
-pub returns : goal.returns
+pub returns-else-all : goal.returns-else-all
 unfolding area_sound
-returns c = c.has_bit.ensures ∙ sym (and_t _ _ (sym (all_end _ _ _ c.loop-p.invariant.0 c.loop-p-test.false c.loop-p.invariant.1)))
+returns-else-all c = let e : c.all.result ≡ all (page_sound c.args.a.now c.args.n) c.args.n = all_from_yields_List (page_sound c.args.a.now c.args.n) _ _ _ c.all.ensures.ran (YieldsList-from_range 0 c.args.n c.args.n (cc) (omega arith)) (λ x b q k. search (rules, tests)) ∙ all_range _ _ in
+    c.if-all.false ∙ sym (and_f _ _ (sym e ∙ c.if-all.false))

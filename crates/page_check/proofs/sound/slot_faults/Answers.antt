@@ -1,5 +1,5 @@
 use native.Mathlib.Omega.{arith}
-use Prim.Native.Nat.{◌/◌, ◌%◌, ◌^◌, ◌-◌}
+use Prim.Native.Nat.{◌/◌, ◌%◌, ◌^◌}
 use Rattle.page_check.specs.SoundLaws.{slot_none, slot_next, faults_end, free_row}
 use Rattle.pages.specs.Objects.{map_at, taken}
 use Rattle.page_check.proofs.sound.slot_faults.Goals as goal

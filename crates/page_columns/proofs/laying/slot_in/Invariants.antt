@@ -1,5 +1,5 @@
 -- Invariant: the words passed are place s of the columns, the rest still zero. Assumes nothing.
-use Prim.Native.Nat.{◌≤◌, ◌-◌}
+use Prim.Native.Nat.{◌≤◌}
 use mathlib.Core.Path.{◌≡◌}
 use mathlib.Core.List.{◌++◌}
 use lib.ListN.{drop, get_or, replicate}
@@ -9,7 +9,4 @@ use Rattle.columns.specs.Columns.{column_at}
 use Rattle.page_columns.proofs.laying.slot_in.Given as goal
 
 abbrev pub invariant-loop-w : goal.invariant-loop-w
-invariant-loop-w l = (l.w ≤ slot_words) × (l.r ≡ tabulate (λ w. get_or l.page (column_at w l.s) 0) l.w ++ drop l.w (replicate slot_words 0))
-
-abbrev pub decreases-loop-w : goal.decreases-loop-w
-decreases-loop-w l = slot_words - l.w
+invariant-loop-w l = (l.w ≤ slot_words) × (l.word-items ≡ tabulate (λ w. get_or l.page (column_at w l.s) 0) l.w ++ drop l.w (replicate slot_words 0))

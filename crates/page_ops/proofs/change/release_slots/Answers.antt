@@ -1,4 +1,4 @@
--- The table that is written back is that of `released-table`. Assumes nothing.
+-- The table that is written back is that of `released_table`. Assumes nothing.
 use Prim.Native.Nat.{ℕ, ◌*◌}
 use mathlib.Core.Path.{ap, ◌∙◌}
 use mathlib.Core.List.{List}

@@ -1,5 +1,4 @@
 use native.Mathlib.Omega.{arith}
-use Prim.Native.Nat.{◌-◌}
 use Rattle.words.specs.Spans.{same_none, same_next, same_end}
 use Rattle.page_ops.proofs.copy.areas_agree.Goals as goal
 

@@ -1,9 +1,8 @@
 use native.Mathlib.Omega.{arith}
-use Prim.Native.Nat.{◌-◌}
 use mathlib.Core.Path.{◌≡◌, refl, sym}
 use Rattle.words.specs.Tests.{all_none, flag_next}
 use Rattle.pages.specs.Geometry.{slot_count}
-use Rattle.pages.specs.Images.{slot_agrees, agrees}
+use Rattle.pages.specs.Images.{agrees}
 use Rattle.page_rows.proofs.images.page_agrees.Goals as goal
 
 pub loop-s-init : goal.loop-s-init

@@ -1,5 +1,5 @@
 -- Invariant: the rows passed are kept or zero, the rest are the table's. Assumes nothing.
-use Prim.Native.Nat.{◌≤◌, ◌-◌}
+use Prim.Native.Nat.{◌≤◌}
 use mathlib.Core.Path.{◌≡◌}
 use mathlib.Core.List.{◌++◌}
 use lib.ListN.{drop}
@@ -9,7 +9,4 @@ use Rattle.page_rows.specs.TableLaws.{freed_row}
 use Rattle.page_rows.proofs.rows.freed_rows.Given as goal
 
 abbrev pub invariant-loop-s : goal.invariant-loop-s
-invariant-loop-s l = (l.s ≤ slot_count) × (l.u ≡ tabulate (freed_row l.t l.m) l.s ++ drop l.s l.t)
-
-abbrev pub decreases-loop-s : goal.decreases-loop-s
-decreases-loop-s l = slot_count - l.s
+invariant-loop-s l = (l.s ≤ slot_count) × (l.row-items ≡ tabulate (freed_row l.fn.t l.m) l.s ++ drop l.s l.fn.t)

@@ -1,5 +1,5 @@
 -- Invariant: the rows passed are the page's, the rest still zero. Assumes nothing.
-use Prim.Native.Nat.{◌≤◌, ◌-◌}
+use Prim.Native.Nat.{◌≤◌}
 use mathlib.Core.Path.{◌≡◌}
 use mathlib.Core.List.{◌++◌}
 use lib.ListN.{drop, replicate}
@@ -9,7 +9,4 @@ use Rattle.page_rows.specs.TableLaws.{zero_row}
 use Rattle.page_rows.proofs.rows.rows_of.Given as goal
 
 abbrev pub invariant-loop-s : goal.invariant-loop-s
-invariant-loop-s l = (l.s ≤ slot_count) × (l.t ≡ tabulate (row_of l.a l.p) l.s ++ drop l.s (replicate slot_count zero_row))
-
-abbrev pub decreases-loop-s : goal.decreases-loop-s
-decreases-loop-s l = slot_count - l.s
+invariant-loop-s l = (l.s ≤ slot_count) × (l.row-items ≡ tabulate (row_of l.a l.p) l.s ++ drop l.s (replicate slot_count zero_row))

@@ -1,4 +1,3 @@
-use Rattle.areas.specs.Tables.{has}
 use Rattle.store_ops.proofs.tables.can_read.Goals as goal
 
 pub returns : goal.returns

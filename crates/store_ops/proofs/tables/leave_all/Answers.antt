@@ -1,17 +1,13 @@
 use native.Mathlib.Omega.{arith}
-use Prim.Native.Nat.{◌-◌}
-use mathlib.Core.Path.{◌≡◌, refl}
-use lib.ListN.{length-set}
-use Rattle.words.specs.Spans.{over}
-use Rattle.store_ops.specs.Tables.{over_turn}
+use mathlib.Core.Path.{◌≡◌}
+use Rattle.store_ops.specs.Tables.{part_none, part_turn}
 use Rattle.store_ops.proofs.tables.leave_all.Goals as goal
 
-pub loop-j-init : goal.loop-j-init
-unfolding over
-loop-j-init c = (omega arith, refl, refl)
+pub loop-mask-init : goal.loop-mask-init
+loop-mask-init c = part_none _ _ _ _
 
-pub loop-j-preserved : goal.loop-j-preserved
-loop-j-preserved c = (omega arith, simp length-set c.loop-j.invariant.1, over_turn _ _ _ _ _ _ c.loop-j.invariant.2 c.without_bit.ensures)
+pub loop-mask-preserved : goal.loop-mask-preserved
+loop-mask-preserved c = part_turn _ _ _ _ _ _ _ c.loop-mask.invariant (omega arith) (omega arith) c.without_bit.ensures
 
 pub returns : goal.returns
-returns c = let e : c.loop-j.j ≡ c.args.k = omega arith in rw e at c.loop-j.invariant.2
+returns c = let e : c.loop-mask.mask-index ≡ c.args.k = omega arith in rw e at c.loop-mask.invariant

@@ -1,5 +1,0 @@
-use Rattle.codes.specs.Codes.{told}
-use Rattle.kophdaen.proofs.kophdaen_mark.Goals as goal
-
-pub returns : goal.returns
-returns c = record { value = (told _ _ _ _ c.code.ensures c.mark-a.ensures).0; work_after = (told _ _ _ _ c.code.ensures c.mark-a.ensures).1 }
