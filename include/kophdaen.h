@@ -169,7 +169,7 @@ uint64_t kophdaen_pass_step(
     uint32_t *received, size_t received_words, uint32_t *log, size_t log_words,
     uint32_t *counts, size_t counts_words, uint32_t *work, size_t work_words);
 
-/* Replays the stable log over the stored pages. Checks lengths only for refusal 1. Takes 176 kB of
+/* Replays the stable log over the stored pages. Checks lengths only for refusal 1. Takes 134 kB of
  * stack. Value 0. */
 uint64_t kophdaen_reopen(
     const uint32_t *stored, size_t stored_words, uint32_t *copies, size_t copies_words,

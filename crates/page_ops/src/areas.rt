@@ -16,10 +16,12 @@ pub fn clear(a: &mut [u32])
     a.fill(0);
 }
 
-// One area becomes another.
+// One area becomes another: a loop, as in `copy_page`.
 pub fn copy_area(from: &[u32], to: &mut [u32])
     requires { length to.old ≡ length from.now }
     ensures { to.new ≡ from.now }
 {
-    to.copy_from_slice(from);
+    for (i, word) in to.iter_mut().enumerate() {
+        *word = from[i];
+    }
 }

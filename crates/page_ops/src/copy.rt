@@ -3,13 +3,15 @@ ghost use Rattle.words.specs.Spans.{same};
 ghost use Rattle.pages.specs.Geometry.{page_at, page_words};
 ghost use Rattle.pages.specs.Objects.{copied_page};
 
-// Page p of one area, written into another.
+// Page p of one area, written into another. A loop: `copy_from_slice` would have the library for C ask for `memmove` from outside.
 pub fn copy_page(from: &[u32], to: &mut [u32], p: usize)
     requires { (page_at p + page_words ≤ length from.now) × (page_at p + page_words ≤ length to.old) }
     ensures { to.new ≡ copied_page from.now to.old p }
 {
     let b = pages::PAGE_WORDS * p;
-    to[b..b + pages::PAGE_WORDS].copy_from_slice(&from[b..b + pages::PAGE_WORDS]);
+    for (i, word) in to[b..b + pages::PAGE_WORDS].iter_mut().enumerate() {
+        *word = from[b + i];
+    }
 }
 
 // Whether an area is the beginning of another, which is no shorter.

@@ -48,10 +48,10 @@ fn walk_down(log: &[u32], work: &[u32], from: usize, c: usize, mask: u32) -> Wal
 {
     let mut sought = mask;
     let mut counted = [Counted { left: 0, undone: 0 }; TXNS];
+    if mask == 0 {
+        return Walk { sought, counted };
+    }
     for i in (0..c).rev() {
-        if sought == 0 {
-            break;
-        }
         let r = log_reader::record_at(log, i);
         let t = r.txn as usize;
         if words::has_bit(sought, t) {
@@ -61,6 +61,9 @@ fn walk_down(log: &[u32], work: &[u32], from: usize, c: usize, mask: u32) -> Wal
                 Some(p) => {
                     counted[t].undone = p;
                     sought = sought_next(sought, r);
+                    if sought == 0 {
+                        break;
+                    }
                 }
             }
         }

@@ -25,8 +25,8 @@ bounds-counted-t-in-Some c = (record_facts _ _ _ _ _ c.record_at-r.ensures c.req
 pub sought_next-sought-requires : goal.sought_next-sought-requires
 sought_next-sought-requires c = (record_facts _ _ _ _ _ c.record_at-r.ensures c.requires.sound (omega arith)).txn_below
 
-pub loop-i-preserved-in-Some : goal.loop-i-preserved-in-Some
-loop-i-preserved-in-Some c = walk_on _ _ _ _ _ _ _ _ _ (omega arith) c.record_at-r.ensures c.loop-i.invariant (record_facts _ _ _ _ _ c.record_at-r.ensures c.requires.sound (omega arith)).txn_below (sym c.has_bit.ensures ∙ c.if-has_bit.true) _ c.turn_at-turn.ensures _ c.in-Some.is _ c.sought_next-sought.ensures
+pub loop-i-preserved-else-sought-eq0 : goal.loop-i-preserved-else-sought-eq0
+loop-i-preserved-else-sought-eq0 c = walk_on _ _ _ _ _ _ _ _ _ (omega arith) c.record_at-r.ensures c.loop-i.invariant (record_facts _ _ _ _ _ c.record_at-r.ensures c.requires.sound (omega arith)).txn_below (sym c.has_bit.ensures ∙ c.if-has_bit.true) _ c.turn_at-turn.ensures _ c.in-Some.is _ c.sought_next-sought.ensures
 
 pub loop-i-preserved : goal.loop-i-preserved
 loop-i-preserved c = walk_past _ _ _ _ _ _ _ _ _ (omega arith) c.record_at-r.ensures c.loop-i.invariant (sym c.has_bit.ensures ∙ c.if-has_bit.false)
@@ -35,4 +35,4 @@ pub returns-after-loop-i : goal.returns-after-loop-i
 returns-after-loop-i c = let e : c.loop-i.i ≡ 0 = omega arith in walk_end _ _ _ _ _ _ (rw e at c.loop-i.invariant)
 
 pub returns-then-sought-eq0 : goal.returns-then-sought-eq0
-returns-then-sought-eq0 c = walk_done _ _ _ _ _ _ _ c.if-sought-eq0.true c.loop-i.invariant
+returns-then-sought-eq0 c = walk_done _ _ _ _ _ _ _ c.if-sought-eq0.true (walk_on _ _ _ _ _ _ _ _ _ (omega arith) c.record_at-r.ensures c.loop-i.invariant (record_facts _ _ _ _ _ c.record_at-r.ensures c.requires.sound (omega arith)).txn_below (sym c.has_bit.ensures ∙ c.if-has_bit.true) _ c.turn_at-turn.ensures _ c.in-Some.is _ c.sought_next-sought.ensures)

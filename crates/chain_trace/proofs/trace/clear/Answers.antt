@@ -21,4 +21,4 @@ returns c =
     let b = c.args.buffer.now in
     let n = chain_words - c.args.d in
     let r : c.fill.new.self ≡ replicate n 0 = c.fill.ensures.after (λ y e. e) ∙ ap (λ (k : ℕ). replicate k 0) (simp (length-take, length-drop) (omega arith)) in
-    put_mid-paste c.args.d (length b - c.args.d) b c.fill.new.self (replicate n 0) n r (omega arith) (sym (length-replicate n 0)) ∙ zeros b c.args.d n (omega arith)
+    put_mid-paste c.args.d _ b c.fill.new.self (replicate n 0) n r (omega arith) (sym (length-replicate n 0)) ∙ zeros b c.args.d n (omega arith)

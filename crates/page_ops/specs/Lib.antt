@@ -1,0 +1,2 @@
+-- Laws of page areas, in the terms that the code works in.
+pub mod Filling
