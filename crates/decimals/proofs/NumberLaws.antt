@@ -7,11 +7,7 @@ use mathlib.Core.List.{List, [], ◌∷◌}
 use native.Mathlib.Omega.{arith}
 use lib.ListN.{length, get_or}
 use borrow.Author.Tests.{le-leb, lt-leb, lt-ltb, le-ltb, eq-eqb, ne_eqb}
-use Rattle.std.specs.Prelude.{Result, Ok, Err, Option, Some, None}
-use Rattle.std.specs.Result.{OkIff, result_ok}
-use Rattle.std.proofs.Common.{sym, ap, ◌∙◌}
-use Rattle.std.proofs.lemmas.Option.{none-some}
-use Rattle.std.proofs.lemmas.Result.{OkIff-at_ok, OkIff-at_err}
+use Rattle.std.specs.Prelude.{Some, None}
 use Rattle.decimals.specs.Digits.{digit_zero, largest}
 use Rattle.decimals.specs.Numbers.{is_digit, and_digit, digits_from, number_in}
 
@@ -45,17 +41,3 @@ module _ (s : List ℕ) where
   unfolding number_in
   number_starts n (inl h) = rw (ne_eqb (length s) 0 n, eq-eqb (get_or s 0 0) digit_zero h.0, le-ltb 1 (length s) h.1)
   number_starts n (inr h) = rw (ne_eqb (length s) 0 n, ne_eqb (get_or s 0 0) digit_zero h)
-
-value_of : Option ℕ → ℕ
-value_of (Some v) = v
-value_of None = 0
-
--- a conversion that keeps v where P holds: what is read of it, x, and where nothing is
-pub converted : {E : Type 0} (r : Result ℕ E) (P : Type 0) (v x : ℕ) → OkIff r P v → result_ok r ≡ Some x → P × (x ≡ v)
-unfolding value_of
-converted {E = E} (Ok y) P v x k e = let p = OkIff-at_ok {E = E} (Ok y) P v y k refl in (p.0, sym (ap value_of e) ∙ p.1)
-converted (Err d) P v x k e = absurd (none-some x e)
-
-pub unconverted : {E : Type 0} (r : Result ℕ E) (P : Type 0) (v : ℕ) → OkIff r P v → result_ok r ≡ None → P → ⊥
-unconverted (Ok y) P v k e p = none-some y (sym e)
-unconverted (Err d) P v k e p = OkIff-at_err (Err d) P v d k refl p

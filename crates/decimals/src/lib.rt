@@ -13,6 +13,10 @@ const BASE: u64 = 10;
 // The digit '0'.
 const ZERO: u8 = b'0';
 
+// The largest number that is read: it has 32 bits. A constant, for the edit of it: where each digit's number is converted by `try_from`,
+// no edit says that a number of 33 bits is cut, and that alone.
+const LARGEST: u64 = 4294967295;
+
 // The number that a text writes.
 #[tactic(auto, using(crate::proofs::NumberLaws::number_empty, crate::proofs::NumberLaws::number_leads, crate::proofs::NumberLaws::number_starts))]
 pub fn number_of(s: &[u8]) -> Option<u32>
@@ -24,14 +28,17 @@ pub fn number_of(s: &[u8]) -> Option<u32>
     if s[0] == ZERO && 1 < s.len() {
         return None;
     }
-    let mut n: u32 = 0;
+    let mut n: u64 = 0;
     for &b in s {
         if !b.is_ascii_digit() {
             return None;
         }
-        n = u32::try_from(BASE * u64::from(n) + u64::from(b - ZERO)).ok()?;
+        n = BASE * n + u64::from(b - ZERO);
+        if LARGEST < n {
+            return None;
+        }
     }
-    Some(n)
+    Some(n as u32)
 }
 
 // Writes the decimal digits of n from `at`, and answers where they end: the contract is of the bytes, which `write!` does not tell.
